@@ -3,15 +3,19 @@
 
 mod fault;
 mod files;
+mod numbers;
 mod octets;
 mod pieces;
 mod rows;
 mod sink;
 mod source;
 mod steps;
+#[cfg(test)]
+mod tests;
 
 pub use fault::{Failed, LoadFault, Status};
-pub use files::{Files, ListedFiles, MemoryFile};
+pub use files::{Files, ListedFiles, MemoryFile, SteadyFiles};
+pub use numbers::read_number;
 pub use octets::Octets;
 pub use rows::Rows;
 pub use sink::{ListedSink, Sink, SteadySink};

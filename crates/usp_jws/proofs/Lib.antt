@@ -1,0 +1,5 @@
+pub mod Blocks
+pub mod Decoded
+pub mod Dots
+pub mod Once
+pub mod Tokens

@@ -1,0 +1,155 @@
+// A key.
+ghost use Rattle.std.specs.Prelude.{◌≡◌, ◌≤◌, length, IfOk, IfErr};
+ghost use Rattle.usp_jws.specs.Letters.{is_kid_letter, is_identity_byte, is_kid, is_identity};
+ghost use Rattle.std.specs.List.{list_all};
+ghost use Rattle.usp_jws.specs.Hmac.{hmac, IsDigest};
+ghost use Rattle.usp_jws.specs.KeyFaults.{RefusesKey};
+ghost use Rattle.usp_jws.specs.declared.key.KeyFault.TheVariants.{NoMemory};
+
+use crate::hmac::{inner_of, mac_from, outer_of};
+use sha2::Sha256;
+use std::alloc::{AllocError, Global};
+use std::marker::Model;
+
+/// Why there is no such key. The first that applies is named.
+#[derive(Clone, Copy, Debug, PartialEq, Eq)]
+pub enum KeyFault {
+    /// The name is not 1 to 64 letters, digits, `-`, `.` and `_`.
+    BadKid,
+    /// The issuer is not 1 to 128 printable ASCII characters without space, `"` and `\\`.
+    BadIssuer,
+    /// The secret has fewer than 32 bytes (RFC 7518 section 3.2).
+    ShortKey,
+    /// The secret has more than 64 bytes.
+    LongKey,
+    /// There was no memory.
+    NoMemory,
+}
+
+impl From<AllocError> for KeyFault {
+    ghost from_gives = { λ _ e. e ≡ NoMemory };
+
+    fn from(_: AllocError) -> Self {
+        KeyFault::NoMemory
+    }
+}
+
+/// An HS256 key with its name and its issuer. It keeps the hashers of its two pads, so that a MAC
+/// hashes no pad again.
+#[derive(Drop)]
+pub struct Key {
+    kid: Vec<u8>,
+    issuer: Vec<u8>,
+    secret: Vec<u8>,
+    inner: Sha256,
+    outer: Sha256,
+}
+
+impl Model for Key {
+    ghost use Rattle.usp_jws.specs.Keys.{KeyValue, IsKey};
+
+    ghost Value = { KeyValue };
+
+    ghost view = { λ k. record { kid = k.kid.items; issuer = k.issuer.items; secret = k.secret.items } };
+
+    ghost invariant = { λ k. IsKey k.kid.items k.issuer.items k.secret.items k.inner k.outer };
+}
+
+impl Key {
+    /// Takes copies of the name, the issuer and the secret.
+    pub fn new(alloc: Global, kid: &[u8], issuer: &[u8], secret: &[u8]) -> Result<Key, KeyFault>
+        ensures ok { IfOk result (λ k. (k.kid ≡ kid.now) × (k.issuer ≡ issuer.now) × (k.secret ≡ secret.now)) }
+        ensures refused { IfErr result (λ e. RefusesKey e kid.now issuer.now secret.now) }
+    {
+        if !is_kid(kid) {
+            return Err(KeyFault::BadKid);
+        }
+        if !is_identity(issuer) {
+            return Err(KeyFault::BadIssuer);
+        }
+        if secret.len() < 32 {
+            return Err(KeyFault::ShortKey);
+        }
+        if secret.len() > 64 {
+            return Err(KeyFault::LongKey);
+        }
+        let kid = kid.to_vec(alloc)?;
+        let issuer = issuer.to_vec(alloc)?;
+        let secret = secret.to_vec(alloc)?;
+        let inner = inner_of(&secret);
+        let outer = outer_of(&secret);
+        Ok(Key {
+            kid,
+            issuer,
+            secret,
+            inner,
+            outer,
+        })
+    }
+
+    /// The name of the key, the `kid` of a header (RFC 7515 section 4.1.4).
+    pub fn kid(&self) -> &[u8]
+        ensures value { result.now ≡ self.now.kid }
+        ensures short { length result.now ≤ 64 }
+    {
+        &self.kid
+    }
+
+    /// Who signs with the key, the `iss` of a claim set (RFC 7519 section 4.1.1).
+    pub fn issuer(&self) -> &[u8]
+        ensures { result.now ≡ self.now.issuer }
+    {
+        &self.issuer
+    }
+
+    /// The MAC of a text by this key.
+    pub fn mac(&self, text: &[u8]) -> [u8; 32]
+        ensures value { result ≡ hmac self.now.secret text.now }
+        ensures digest { IsDigest (hmac self.now.secret text.now) }
+    {
+        let inner = self.inner.clone().unwrap();
+        let outer = self.outer.clone().unwrap();
+        mac_from(inner, outer, text)
+    }
+}
+
+fn is_kid(kid: &[u8]) -> bool
+    ensures { result ≡ is_kid kid.now }
+{
+    1 <= kid.len() && kid.len() <= 64 && has_kid_letters(kid)
+}
+
+fn is_identity(text: &[u8]) -> bool
+    ensures { result ≡ is_identity text.now }
+{
+    1 <= text.len() && text.len() <= 128 && has_identity_bytes(text)
+}
+
+fn has_kid_letters(kid: &[u8]) -> bool
+    ensures { result ≡ list_all is_kid_letter kid.now }
+{
+    kid.iter().all(|b| is_kid_letter(*b))
+}
+
+fn has_identity_bytes(text: &[u8]) -> bool
+    ensures { result ≡ list_all is_identity_byte text.now }
+{
+    text.iter().all(|b| is_identity_byte(*b))
+}
+
+fn is_kid_letter(b: u8) -> bool
+    ensures { result ≡ is_kid_letter b }
+{
+    (b >= b'a' && b <= b'z')
+        || (b >= b'A' && b <= b'Z')
+        || (b >= b'0' && b <= b'9')
+        || b == b'-'
+        || b == b'.'
+        || b == b'_'
+}
+
+fn is_identity_byte(b: u8) -> bool
+    ensures { result ≡ is_identity_byte b }
+{
+    b >= 0x21 && b <= 0x7e && b != b'"' && b != b'\\'
+}
