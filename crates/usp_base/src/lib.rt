@@ -1,6 +1,7 @@
 //! What the program meets outside itself, as traits, with forms in memory.
 #![tactic(auto)]
 
+mod cuts;
 mod fault;
 mod files;
 mod numbers;
@@ -13,6 +14,7 @@ mod steps;
 #[cfg(test)]
 mod tests;
 
+pub use cuts::{after_prefix, cut_at, without_end};
 pub use fault::{Failed, LoadFault, Status};
 pub use files::{Files, ListedFiles, MemoryFile, SteadyFiles};
 pub use numbers::read_number;

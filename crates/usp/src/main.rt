@@ -1,0 +1,47 @@
+//! The program `usp`: makes the real files, input and output, runs the command that the words name
+//! over them, and ends with its status.
+#![tactic(auto)]
+
+mod outside;
+#[cfg(test)]
+mod tests;
+
+use outside::{Folder, Incoming, Outgoing};
+use std::io::ErrorKind;
+use std::process::ExitCode;
+use std::rt::Runtime;
+use std::{env, io};
+use usp_base::Status;
+use usp_tool::{Outside, run};
+
+// The words behind the program's name.
+fn words_of<R: Runtime + AllocGlobal>(rt: &R) -> io::Result<Vec<String>> {
+    let mut words = Vec::new(rt.alloc());
+    let mut args = env::args(rt)?;
+    let _ = args.next();
+    for word in args {
+        words.push(word)?;
+    }
+    Ok(words)
+}
+
+fn main(rt: HostRuntime) -> ExitCode {
+    let alloc = rt.alloc();
+    let words = match words_of(&rt) {
+        Ok(words) => words,
+        Err(error) => {
+            if error.kind() == ErrorKind::OutOfMemory {
+                return ExitCode::from(Status::Memory as u8);
+            }
+            // A word that is no text is in no command.
+            Vec::new(alloc)
+        }
+    };
+    let mut outside = Outside {
+        files: Folder::new(&rt),
+        input: Incoming::new(rt.reader()),
+        out: Outgoing::new(io::writer(&rt)),
+    };
+    let status = run(alloc, &words, &mut outside);
+    ExitCode::from(status as u8)
+}

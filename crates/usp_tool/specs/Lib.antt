@@ -1,0 +1,7 @@
+pub mod Answer
+pub mod Conf
+pub mod Judging
+pub mod Line
+pub mod Run
+pub mod Segment
+pub mod Words
