@@ -1,0 +1,6 @@
+pub mod History
+pub mod Laws
+pub mod Nonces
+pub mod Stands
+pub mod Steps
+pub mod Table

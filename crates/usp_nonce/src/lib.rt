@@ -1,0 +1,15 @@
+//! The nonces that one edge has taken: whether the `jti` of a token was used before for a content
+//! (RFC 9246, section 2.1.7).
+#![tactic(auto)]
+
+mod answer;
+mod key;
+mod laws;
+mod table;
+#[cfg(test)]
+mod tests;
+
+pub use answer::{Answer, Turned};
+pub use key::{NoMemory, NonceKey, nonce_key};
+pub use laws::{has_one_legal_history, takes_no_nonce_twice};
+pub use table::NonceTable;
