@@ -1,0 +1,14 @@
+pub mod Sets
+pub mod Expression
+pub mod Shape
+pub mod SetText
+pub mod CountText
+pub mod Tokens
+pub mod Faults
+pub mod Grammar
+pub mod Compiled
+pub mod Places
+pub mod Reading
+pub mod Lines
+pub mod Parts
+pub mod Marks
