@@ -40,10 +40,10 @@ IsOwn status = ⊥
 record Ends (o : Outcome) : Type 0 where
   own : IsOwn o.status
 
-verdict_ends : (content : List ℕ) (verdict : Option Verdict) → Ends (outcome_of content verdict)
-verdict_ends content None = record { own = tt }
-verdict_ends content (Some Admitted) = record { own = tt }
-verdict_ends content (Some (Denied rule)) = record { own = tt }
+verdict_ends : (verdict : Option Verdict) → Ends (outcome_of verdict)
+verdict_ends None = record { own = tt }
+verdict_ends (Some (Admitted content)) = record { own = tt }
+verdict_ends (Some (Denied rule)) = record { own = tt }
 
 refused_ends : (what : List ℕ) → Ends (refused what)
 refused_ends what = record { own = tt }
@@ -56,7 +56,7 @@ same_end o p e h = subst Ends (sym e) h
 
 ask_ends : (secret : List ℕ) (ask : Option AskValue) (o : Outcome) → AnswersAsk secret ask o → Ends o
 ask_ends secret None o h = same_end o (refused (codes "line 1")) h (refused_ends (codes "line 1"))
-ask_ends secret (Some ask) o h = same_end o (outcome_of ask.content h.0) h.2 (verdict_ends ask.content h.0)
+ask_ends secret (Some ask) o h = same_end o (outcome_of h.0) h.2 (verdict_ends h.0)
 
 either : (b : Bool) (P Q : Type 0) (o : Outcome) → (P → Ends o) → (Q → Ends o) → MatchBool b P Q → Ends o
 either true P Q o f g h = f h

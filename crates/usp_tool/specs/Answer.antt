@@ -6,20 +6,23 @@ use Rattle.usp_tool.specs.Conf.{secret_of, key_of}
 use Rattle.usp_tool.specs.Judging.{Judges}
 use Rattle.usp_tool.specs.Line.{AskValue, ask_of}
 use Rattle.usp_tool.specs.declared.verdict.Rule.{Rule}
-use Rattle.usp_tool.specs.declared.verdict.Rule.TheVariants.{Signature, Expired, Container}
+use Rattle.usp_tool.specs.declared.verdict.Rule.TheVariants as rule
 use Rattle.usp_tool.specs.declared.verdict.Verdict.{Verdict}
 use Rattle.usp_tool.specs.declared.verdict.Verdict.TheVariants.{Admitted, Denied}
 
 -- a rule's number and name
 abbrev pub rule_text : Rule → List ℕ
-rule_text Signature = codes "5 Signature"
-rule_text Expired = codes "13 Expired"
-rule_text Container = codes "15 Container"
+rule_text rule.Uri = codes "1 Uri"
+rule_text rule.Missing = codes "2 Missing"
+rule_text rule.Package = codes "3 Package"
+rule_text rule.Signature = codes "5 Signature"
+rule_text rule.Expired = codes "13 Expired"
+rule_text rule.Container = codes "15 Container"
 
 -- the line of a verdict
-abbrev pub verdict_line : List ℕ → Verdict → List ℕ
-verdict_line content Admitted = codes "1 admitted " ++ content ++ 10 ∷ []
-verdict_line content (Denied rule) = codes "1 denied " ++ rule_text rule ++ 10 ∷ []
+abbrev pub verdict_line : Verdict → List ℕ
+verdict_line (Admitted content) = codes "1 admitted " ++ content ++ 10 ∷ []
+verdict_line (Denied rule) = codes "1 denied " ++ rule_text rule ++ 10 ∷ []
 
 -- a text, and the status behind it
 pub record Outcome : Type 0 where
@@ -32,16 +35,16 @@ refused what = record { text = codes "refused " ++ what ++ 10 ∷ []; status = R
 abbrev pub nothing : Outcome
 nothing = record { text = []; status = Done }
 
--- the outcome of a verdict on a content
-abbrev pub outcome_of : List ℕ → Option Verdict → Outcome
-outcome_of content None = refused (codes "line 1")
-outcome_of content (Some Admitted) = record { text = verdict_line content Admitted; status = Done }
-outcome_of content (Some (Denied rule)) = record { text = verdict_line content (Denied rule); status = Denials }
+-- the outcome of a verdict
+abbrev pub outcome_of : Option Verdict → Outcome
+outcome_of None = refused (codes "line 1")
+outcome_of (Some (Admitted content)) = record { text = verdict_line (Admitted content); status = Done }
+outcome_of (Some (Denied rule)) = record { text = verdict_line (Denied rule); status = Denials }
 
 -- The outcome of a line: that of the verdict on its ask.
 abbrev pub AnswersAsk : List ℕ → Option AskValue → Outcome → Type 0
 AnswersAsk secret None outcome = outcome ≡ refused (codes "line 1")
-AnswersAsk secret (Some ask) outcome = (verdict : Option Verdict) × Judges (key_of secret) ask verdict × (outcome ≡ outcome_of ask.content verdict)
+AnswersAsk secret (Some ask) outcome = (verdict : Option Verdict) × Judges (key_of secret) ask verdict × (outcome ≡ outcome_of verdict)
 
 -- Nothing is written for an empty input, and an input of more than 32,768 bytes is refused.
 abbrev pub AnswersInput : List ℕ → List ℕ → Outcome → Type 0

@@ -12,6 +12,7 @@ use std::alloc::Global;
 use std::marker::Model;
 use usp_base::Status;
 use usp_jws::{Key, NoMemory, Ring};
+use usp_uri::Uri;
 
 /// The longest input in bytes.
 pub const LONGEST_INPUT: usize = 32768;
@@ -63,18 +64,21 @@ fn rule_text(rule: Rule) -> &'static [u8]
     ensures { result.now ≡ rule_text rule }
 {
     match rule {
+        Rule::Uri => b"1 Uri",
+        Rule::Missing => b"2 Missing",
+        Rule::Package => b"3 Package",
         Rule::Signature => b"5 Signature",
         Rule::Expired => b"13 Expired",
         Rule::Container => b"15 Container",
     }
 }
 
-fn admitted(alloc: Global, content: &[u8]) -> Result<Answer, NoMemory>
-    ensures { IfOk result (λ answer. answer ≡ outcome_of content.now (Some Verdict.Admitted)) }
+fn admitted(alloc: Global, content: &Uri) -> Result<Answer, NoMemory>
+    ensures { IfOk result (λ answer. answer ≡ outcome_of (Some (Verdict.Admitted content.now))) }
 {
     let mut text = Vec::new(alloc);
     text.extend_from_slice(b"1 admitted ")?;
-    text.extend_from_slice(content)?;
+    text.extend_from_slice(content.text())?;
     text.push(b'\n')?;
     Ok(Answer {
         text,
@@ -82,8 +86,8 @@ fn admitted(alloc: Global, content: &[u8]) -> Result<Answer, NoMemory>
     })
 }
 
-fn denied(alloc: Global, content: &[u8], rule: Rule) -> Result<Answer, NoMemory>
-    ensures { IfOk result (λ answer. answer ≡ outcome_of content.now (Some (Verdict.Denied rule))) }
+fn denied(alloc: Global, rule: Rule) -> Result<Answer, NoMemory>
+    ensures { IfOk result (λ answer. answer ≡ outcome_of (Some (Verdict.Denied rule))) }
 {
     let mut text = Vec::new(alloc);
     text.extend_from_slice(b"1 denied ")?;
@@ -95,17 +99,13 @@ fn denied(alloc: Global, content: &[u8], rule: Rule) -> Result<Answer, NoMemory>
     })
 }
 
-fn verdict_answer(
-    alloc: Global,
-    content: &[u8],
-    verdict: Option<Verdict>,
-) -> Result<Answer, NoMemory>
-    ensures { IfOk result (λ answer. answer ≡ outcome_of content.now verdict) }
+fn verdict_answer(alloc: Global, verdict: Option<Verdict>) -> Result<Answer, NoMemory>
+    ensures { IfOk result (λ answer. answer ≡ outcome_of verdict) }
 {
     match verdict {
         None => refused(alloc, b"line 1"),
-        Some(Verdict::Admitted) => admitted(alloc, content),
-        Some(Verdict::Denied(rule)) => denied(alloc, content, rule),
+        Some(Verdict::Admitted(content)) => admitted(alloc, &content),
+        Some(Verdict::Denied(rule)) => denied(alloc, rule),
     }
 }
 
@@ -135,7 +135,7 @@ fn line_answer(alloc: Global, secret: &[u8], line: &[u8]) -> Result<Answer, NoMe
     };
     let ring = ring_of(alloc, secret)?;
     let verdict = judge(alloc, &ring, &ask)?;
-    verdict_answer(alloc, ask.content(), verdict)
+    verdict_answer(alloc, verdict)
 }
 
 // The answer to an input under a secret.

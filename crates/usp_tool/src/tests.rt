@@ -71,61 +71,72 @@ fn line(alloc: Global, front: &str, token: &str, back: &str) -> Result<String, A
 #[test]
 fn a_line_is_admitted_or_denied_by_the_first_rule_that_fails(rt: HostRuntime) -> Result<(), Fail> {
     let alloc = rt.alloc();
-    let rows: [(&str, &str, &str, &str, Status); 8] = [
+    let admitted = "1 admitted http://h/v\n";
+    let expired = "1 denied 13 Expired\n";
+    let container = "1 denied 15 Container\n";
+    let signature = "1 denied 5 Signature\n";
+    let rows: [(&str, &str, &str, &str, Status); 9] = [
         (
             CONF,
             "50 http://h/v?URISigningPackage=",
             "",
-            "1 admitted http://h/v\n",
+            admitted,
             Status::Done,
         ),
         (
             CONF,
             "99 http://h/v?URISigningPackage=",
             "\n",
-            "1 admitted http://h/v\n",
+            admitted,
             Status::Done,
         ),
         (
             CONF,
             "100 http://h/v?URISigningPackage=",
             "",
-            "1 denied 13 Expired\n",
-            Status::Denials,
-        ),
-        (
-            CONF,
-            "50 http://h/w?URISigningPackage=",
-            "",
-            "1 denied 15 Container\n",
-            Status::Denials,
-        ),
-        (
-            CONF,
-            "100 http://h/w?URISigningPackage=",
-            "",
-            "1 denied 13 Expired\n",
-            Status::Denials,
-        ),
-        (
-            OTHER_CONF,
-            "50 http://h/v?URISigningPackage=",
-            "",
-            "1 denied 5 Signature\n",
-            Status::Denials,
-        ),
-        (
-            OTHER_CONF,
-            "100 http://h/w?URISigningPackage=",
-            "",
-            "1 denied 5 Signature\n",
+            expired,
             Status::Denials,
         ),
         (
             CONF,
             "4503599627370495 http://h/v?URISigningPackage=",
             "",
-            "1 denied 13 Expired\n",
+            expired,
+            Status::Denials,
+        ),
+        (
+            CONF,
+            "50 http://h/w?URISigningPackage=",
+            "",
+            container,
+            Status::Denials,
+        ),
+        (
+            CONF,
+            "50 https://h/v?URISigningPackage=",
+            "",
+            container,
+            Status::Denials,
+        ),
+        (
+            CONF,
+            "100 http://h/w?URISigningPackage=",
+            "",
+            expired,
+            Status::Denials,
+        ),
+        (
+            OTHER_CONF,
+            "50 http://h/v?URISigningPackage=",
+            "",
+            signature,
+            Status::Denials,
+        ),
+        (
+            OTHER_CONF,
+            "100 http://h/w?URISigningPackage=",
+            "",
+            signature,
             Status::Denials,
         ),
     ];
@@ -140,14 +151,84 @@ fn a_line_is_admitted_or_denied_by_the_first_rule_that_fails(rt: HostRuntime) ->
 }
 
 #[test]
+fn any_uri_is_judged_in_its_normal_form(rt: HostRuntime) -> Result<(), Fail> {
+    let alloc = rt.alloc();
+    let rows: [(&str, &str, &str, &str, Status); 8] = [
+        (
+            "50 http://H/%76?URISigningPackage=",
+            TOKEN,
+            "",
+            "1 admitted http://h/v\n",
+            Status::Done,
+        ),
+        (
+            "50 http://h/v;URISigningPackage=",
+            TOKEN,
+            "",
+            "1 admitted http://h/v\n",
+            Status::Done,
+        ),
+        (
+            "50 http://h?URISigningPackage=",
+            TOKEN,
+            "@x",
+            "1 denied 15 Container\n",
+            Status::Denials,
+        ),
+        (
+            "50 http://h/v",
+            "",
+            "",
+            "1 denied 2 Missing\n",
+            Status::Denials,
+        ),
+        (
+            "50 http://h/v?URISigningPackage=",
+            TOKEN,
+            "%41",
+            "1 denied 3 Package\n",
+            Status::Denials,
+        ),
+        (
+            "50 http://h/v?URISigningPackage=",
+            "",
+            "",
+            "1 denied 3 Package\n",
+            Status::Denials,
+        ),
+        (
+            "50 http://h/%zz",
+            "",
+            "",
+            "1 denied 1 Uri\n",
+            Status::Denials,
+        ),
+        (
+            "50 http:///v?URISigningPackage=",
+            TOKEN,
+            "",
+            "1 denied 1 Uri\n",
+            Status::Denials,
+        ),
+    ];
+    for (front, token, back, written, status) in rows {
+        let input = line(alloc, front, token, back)?;
+        assert_eq!(rt;
+            checks(alloc, CONF, input.as_str(), written)?,
+            (status, true)
+        );
+    }
+    Ok(())
+}
+
+#[test]
 fn a_line_of_another_form_is_refused(rt: HostRuntime) -> Result<(), Fail> {
     let alloc = rt.alloc();
-    let rows: [(&str, &str, &str); 9] = [
-        ("50 http://h/v", "", ""),
+    let rows: [(&str, &str, &str); 8] = [
+        ("x", "", ""),
+        ("50 ", "", ""),
         ("050 http://h/v?URISigningPackage=", TOKEN, ""),
         ("4503599627370496 http://h/v?URISigningPackage=", TOKEN, ""),
-        ("50 https://h/v?URISigningPackage=", TOKEN, ""),
-        ("50 http:///v?URISigningPackage=", TOKEN, ""),
         ("50  http://h/v?URISigningPackage=", TOKEN, ""),
         ("50 http://h/v?URISigningPackage=", TOKEN, "\n\n"),
         ("50 http://h/v?URISigningPackage=", OTHER_NAME, ""),

@@ -1,20 +1,27 @@
 // Rules and verdicts.
+use usp_uri::Uri;
 
-/// A rule that a request may break.
+/// A rule that a request may break (RFC 9246 sections 2 and 3). They are tried in this order.
 #[derive(Clone, Copy, Debug, PartialEq, Eq)]
 pub enum Rule {
-    /// A key of the ring verifies the token (RFC 7515 section 5.2).
+    /// The URI has a normal form, its package still in it.
+    Uri,
+    /// The URI has a package.
+    Missing,
+    /// The package ends as it may, and what it brings is a token.
+    Package,
+    /// A key of the ring verifies the token.
     Signature,
-    /// The expiry is above the moment (RFC 7519 section 4.1.4).
+    /// The expiry is above the moment.
     Expired,
-    /// The container meets the content (RFC 9246 section 2.1.15).
+    /// The container meets the content.
     Container,
 }
 
-/// Whether a request is admitted, or which rule denies it.
-#[derive(Clone, Copy, Debug, PartialEq, Eq)]
+/// Whether a request is admitted, with its content, or which rule denies it.
+#[derive(Drop)]
 pub enum Verdict {
-    Admitted,
+    Admitted(Uri),
     /// The first rule that fails.
     Denied(Rule),
 }

@@ -1,28 +1,14 @@
-use Rattle.std.proofs.Common.{◌∙◌, sym, ap}
-use Rattle.usp_tool.specs.Judging.{plain_in}
-use Rattle.usp_tool.proofs.Asks.{not_split, other_header, other_payload}
+use Rattle.std.proofs.Common.{◌∙◌, sym, ap, codes}
+use Rattle.std.specs.Result.{result_ok}
+use Rattle.usp_package.specs.Found.{shown}
+use Rattle.usp_package.specs.Package.{package_of}
+use Rattle.usp_uri.specs.Faults.{normal_of}
+use Rattle.usp_tool.proofs.Asks.{at_normal}
 use Rattle.usp_tool.proofs.judging.judge.Goals as goal
 
-pub returns-in_default : goal.returns-in_default
-returns-in_default c = λ key ring. not_split _ c.in_default.field-0 (rw (← c.token.ensures) c.in_default.ensures.refused)
-
-pub returns-then-not-has_header : goal.returns-then-not-has_header
-returns-then-not-has_header c = λ key ring. other_header _ c.in-Ok.parts (sym c.token.ensures ∙ c.in-Ok.ensures.ok.1) (sym c.if-not-has_header.ensures)
-
-pub returns-in_default-2 : goal.returns-in_default-2
-returns-in_default-2 c = λ key ring.
-    other_payload _ c.in-Ok.parts (sym c.token.ensures ∙ c.in-Ok.ensures.ok.1)
-    (ap plain_in (sym c.payload.ensures) ∙ (sym c.in_ok-claims.ensures ∙ c.in_default-2.is))
-
 pub returns : goal.returns
-returns c = λ key ring. (
-  c.in-Ok.parts,
-  c.in-Some.claims,
-  record {
-    short = rw (← c.token.ensures) c.in-Ok.ensures.ok.0;
-    whole = sym c.token.ensures ∙ c.in-Ok.ensures.ok.1;
-    header = sym c.if-not-has_header.ensures;
-    payload = ap plain_in (sym c.payload.ensures) ∙ (sym c.in_ok-claims.ensures ∙ c.in-Some.is);
-  },
-  c.verdict_of.ensures key ring,
-)
+returns c = λ key ring.
+    at_normal (normal_of c.args.ask.now.uri) c.in-Some-2.field-0 key c.args.ask.now c.moment.result (shown c.find.result) c.judge_package.result
+    (ap (λ uri. result_ok (normal_of uri)) (sym c.uri.ensures) ∙ (sym c.in_ok-normal_form.ensures ∙ c.in-Some-2.is))
+    (c.find.ensures.exact ∙ (ap (λ name. package_of name c.uri-2.result.now) c.in-Some.ensures.value ∙ ap (package_of (codes "URISigningPackage")) c.uri-2.ensures))
+    c.moment.ensures (c.judge_package.ensures key ring)

@@ -1,0 +1,9 @@
+pub mod Counts
+pub mod Ends
+pub mod Entered
+pub mod Fronts
+pub mod Hands
+pub mod Keeps
+pub mod Opens
+pub mod Shares
+pub mod Totals

@@ -1,0 +1,15 @@
+// What is true of the calls of seats.
+ghost use Rattle.std.specs.Prelude.{◌≡◌, ℕ, ◌<◌, List, Some, slice_get};
+ghost use mathlib.Core.List.{IsPrefix};
+ghost use Rattle.usp_nonce.specs.History.{Call};
+ghost use Rattle.usp_shared.specs.Histories.{IsEntered};
+
+/// A call stands at the place that it is told, and stays there however the history goes on.
+pub fn keeps_each_call_at_its_place()
+    ensures at { (before after : List Call) (call : Call) (place : ℕ)
+        → IsEntered before call place after → slice_get after place ≡ Some call }
+    ensures more { (before after : List Call) (call : Call) (place : ℕ)
+        → IsEntered before call place after → IsPrefix before after }
+    ensures later { (history longer : List Call) (call : Call) (place : ℕ)
+        → slice_get history place ≡ Some call → IsPrefix history longer → slice_get longer place ≡ Some call }
+{}

@@ -1,0 +1,17 @@
+pub mod Rows
+pub mod CutLemmas
+pub mod PortLemmas
+pub mod SchemeLemmas
+pub mod ReadLemmas
+pub mod EscapeLemmas
+pub mod DotLemmas
+pub mod NormalLemmas
+pub mod GrammarLemmas
+pub mod DotLaws
+pub mod StandardLaws
+pub mod ComponentLaws
+pub mod SpelledLaws
+pub mod AcceptedLaws
+pub mod EscapeLaws
+pub mod NormalLaws
+pub mod PlaceLaws

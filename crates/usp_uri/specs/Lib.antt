@@ -1,0 +1,11 @@
+pub mod Letters
+pub mod Cuts
+pub mod Components
+pub mod Normal
+pub mod DotSegments
+pub mod Faults
+pub mod Cut
+pub mod Kept
+pub mod Grammar
+pub mod Answers
+pub mod Origin
