@@ -1,0 +1,12 @@
+pub mod CanonLaws
+pub mod CharLemmas
+pub mod FaultLaws
+pub mod FrameLaws
+pub mod HoldLaws
+pub mod LiveLaws
+pub mod Numbers
+pub mod Pairs
+pub mod PieceLaws
+pub mod ReadLaws
+pub mod Texts
+pub mod Written

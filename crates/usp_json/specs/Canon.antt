@@ -1,0 +1,68 @@
+-- The one canonical spelling.
+use Rattle.std.specs.Prelude.{ℕ, ◌+◌, ◌/◌, ◌%◌, ◌==◌, nat_lt, List, [], ◌∷◌, ◌++◌, codes, map, if◌then◌else◌}
+use Rattle.std.specs.List.{zip}
+use Rattle.usp_json.specs.declared.value.Json.{Json}
+use Rattle.usp_json.specs.declared.value.Json.TheOpen.{Json-F, Items-F, Members-F}
+use Rattle.usp_json.specs.declared.value.Json.TheOpen as level
+use Rattle.usp_json.specs.declared.value.Json.TheFolds.{fold-Json, fold-Items, fold-Members}
+use Rattle.usp_json.specs.declared.value.Items.{Items}
+use Rattle.usp_json.specs.declared.value.Members.{Members}
+use Rattle.usp_json.specs.Spells.{word_of}
+
+-- a hexadecimal digit, in lower case
+abbrev pub hex_digit : ℕ → ℕ
+hex_digit d = if nat_lt d 10 then 48 + d else 87 + d
+
+-- a byte of a text: quote, backslash and control characters are escaped
+abbrev pub escape_of : ℕ → List ℕ
+escape_of b =
+    if b == 34 then codes "\\\"" else (if b == 92 then codes "\\\\" else (if b == 8 then codes "\\b"
+    else (if b == 9 then codes "\\t" else (if b == 10 then codes "\\n" else (if b == 12 then codes "\\f"
+    else (if b == 13 then codes "\\r" else (if nat_lt b 32 then 92 ∷ 117 ∷ 48 ∷ 48 ∷ hex_digit (b / 16) ∷ hex_digit (b % 16) ∷ [] else b ∷ [])))))))
+
+abbrev pub escaped_text : List ℕ → List ℕ
+escaped_text [] = []
+escaped_text (b ∷ bytes) = escape_of b ++ escaped_text bytes
+
+-- a text in quotes
+abbrev pub canon_text : List ℕ → List ℕ
+canon_text bytes = 34 ∷ (escaped_text bytes ++ 34 ∷ [])
+
+-- spellings with a comma before each
+abbrev pub behind : List (List ℕ) → List ℕ
+behind [] = []
+behind (text ∷ texts) = 44 ∷ (text ++ behind texts)
+
+-- spellings with commas between them
+abbrev pub commas : List (List ℕ) → List ℕ
+commas [] = []
+commas (text ∷ texts) = text ++ behind texts
+
+-- a name, a colon, and the spelling of its value
+abbrev pub member_of : List ℕ × List ℕ → List ℕ
+member_of m = canon_text m.0 ++ 58 ∷ m.1
+
+-- one level, with the spelling of each value inside in its place: there is no white space
+abbrev pub canon_step : Json-F (List ℕ) (List ℕ) (List ℕ) → List ℕ
+canon_step level.Null = codes "null"
+canon_step (level.Bool b) = word_of b
+canon_step (level.Num spelled) = spelled
+canon_step (level.Str bytes) = canon_text bytes
+canon_step (level.List items) = items
+canon_step (level.Obj members) = members
+
+abbrev pub items_step : Items-F (List ℕ) (List ℕ) (List ℕ) → List ℕ
+items_step items = 91 ∷ (commas items.values ++ 93 ∷ [])
+
+abbrev pub members_step : Members-F (List ℕ) (List ℕ) (List ℕ) → List ℕ
+members_step members = 123 ∷ (commas (map member_of (zip members.names members.values)) ++ 125 ∷ [])
+
+-- the canonical spelling of a value, and of an object
+abbrev pub canon : Json → List ℕ
+canon = fold-Json (List ℕ) (List ℕ) (List ℕ) canon_step items_step members_step
+
+abbrev pub canon_items : Items → List ℕ
+canon_items = fold-Items (List ℕ) (List ℕ) (List ℕ) canon_step items_step members_step
+
+abbrev pub canon_members : Members → List ℕ
+canon_members = fold-Members (List ℕ) (List ℕ) (List ℕ) canon_step items_step members_step

@@ -1,0 +1,37 @@
+-- Where a text stops being the front of an object's text, and why.
+use Rattle.std.specs.Prelude.{◌≡◌, ◌⊎◌, ℕ, ◌+◌, ◌<◌, ◌≤◌, List, length, take, slice_index}
+use Rattle.usp_json.specs.declared.fault.JsonFault.{JsonFault}
+use Rattle.usp_json.specs.declared.fault.JsonFault.TheVariants.{Syntax, Duplicate, Deep, Many, NoMemory}
+use Rattle.usp_json.specs.declared.value.Members.{Members}
+use Rattle.usp_json.specs.Spells.{Limits, IsReading, IsViable, IsViableWithin, with_a_level_more, with_a_member_more, with_equal_names}
+
+-- the text has no reading: the bytes before that place have a continuation that is read, and with the byte there they have none
+pub record StopsAt (text : List ℕ) (at : ℕ) : Type 0 where
+  pub no_reading : (members : Members) → ¬ (IsReading text members)
+  pub within : at ≤ length text
+  pub front : IsViable (take at text)
+  pub stops : at < length text → ¬ (IsViable (take (at + 1) text))
+
+-- the bytes up to and with that place go on where the limits are those
+abbrev pub GoesOnWithin : Limits → List ℕ → ℕ → Type 0
+GoesOnWithin limits text at = (at < length text) × IsViableWithin limits (take (at + 1) text)
+
+-- an opening bracket, which only the number of levels forbids
+abbrev pub IsTooDeep : List ℕ → ℕ → Type 0
+IsTooDeep text at = ((slice_index text at ≡ 91) ⊎ (slice_index text at ≡ 123)) × GoesOnWithin with_a_level_more text at
+
+-- a comma, which only the number of members forbids
+abbrev pub IsTooMany : List ℕ → ℕ → Type 0
+IsTooMany text at = (slice_index text at ≡ 44) × GoesOnWithin with_a_member_more text at
+
+-- a quote, which only an equal name forbids
+abbrev pub IsDuplicate : List ℕ → ℕ → Type 0
+IsDuplicate text at = (slice_index text at ≡ 34) × GoesOnWithin with_equal_names text at
+
+-- what each fault says of the text
+abbrev pub Refuses : List ℕ → JsonFault → Type 0
+Refuses text (Syntax at) = StopsAt text at × (¬ (IsTooDeep text at)) × (¬ (IsTooMany text at)) × (¬ (IsDuplicate text at))
+Refuses text (Duplicate at) = StopsAt text at × IsDuplicate text at
+Refuses text (Deep at) = StopsAt text at × IsTooDeep text at
+Refuses text (Many at) = StopsAt text at × IsTooMany text at
+Refuses text NoMemory = Unit {0}

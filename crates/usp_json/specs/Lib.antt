@@ -1,0 +1,9 @@
+pub mod Entries
+pub mod Grammar
+pub mod Number
+pub mod Spells
+pub mod Canon
+pub mod Pieces
+pub mod Machine
+pub mod Faults
+pub mod Kept

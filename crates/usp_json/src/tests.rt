@@ -1,0 +1,223 @@
+use crate::{Items, Json, JsonFault, Members, NumText, Text, read_members, write_members};
+use std::alloc::{AllocError, Global};
+use std::test::Fail;
+
+fn reads(alloc: Global, text: &[u8], canonical: &[u8]) -> bool {
+    let Ok(members) = read_members(alloc, text) else {
+        return false;
+    };
+    match write_members(alloc, &members) {
+        Ok(written) => written.as_slice() == canonical,
+        Err(_) => false,
+    }
+}
+
+fn refuses(alloc: Global, text: &[u8], fault: JsonFault) -> bool {
+    match read_members(alloc, text) {
+        Ok(_) => false,
+        Err(found) => found == fault,
+    }
+}
+
+#[test]
+fn reads_every_spelling(rt: HostRuntime) -> Result<(), Fail> {
+    let table: [(&[u8], &[u8]); 22] = [
+        (b"{}", b"{}"),
+        (b" \t\r\n{ \n} ", b"{}"),
+        (
+            b"{\"a\":null,\"b\":true,\"c\":false}",
+            b"{\"a\":null,\"b\":true,\"c\":false}",
+        ),
+        (
+            b"{ \"a\" : [ 1 , 2 ] , \"b\" : { } }",
+            b"{\"a\":[1,2],\"b\":{}}",
+        ),
+        (b"{\"a\":[]}", b"{\"a\":[]}"),
+        (b"{\"a\":[ ]}", b"{\"a\":[]}"),
+        (b"{\"\":0}", b"{\"\":0}"),
+        (b"{\"a\":0}", b"{\"a\":0}"),
+        (b"{\"a\":-0}", b"{\"a\":-0}"),
+        (b"{\"a\":10.50}", b"{\"a\":10.50}"),
+        (
+            b"{\"a\":1e5,\"b\":1E+05,\"c\":-1.0e-0}",
+            b"{\"a\":1e5,\"b\":1E+05,\"c\":-1.0e-0}",
+        ),
+        (b"{\"a\":123 }", b"{\"a\":123}"),
+        (
+            b"{\"a\":\"\\\"\\\\\\/\\b\\f\\n\\r\\t\"}",
+            b"{\"a\":\"\\\"\\\\/\\b\\f\\n\\r\\t\"}",
+        ),
+        (
+            b"{\"a\":\"\\u0041\\u00e9\\u20AC\"}",
+            b"{\"a\":\"A\xc3\xa9\xe2\x82\xac\"}",
+        ),
+        (
+            b"{\"a\":\"\\ud83d\\ude00\"}",
+            b"{\"a\":\"\xf0\x9f\x98\x80\"}",
+        ),
+        (
+            b"{\"a\":\"\\uD800\\uDC00\\udbff\\udfff\"}",
+            b"{\"a\":\"\xf0\x90\x80\x80\xf4\x8f\xbf\xbf\"}",
+        ),
+        (
+            b"{\"a\":\"\\u0000\\u001F\\u007f\"}",
+            b"{\"a\":\"\\u0000\\u001f\x7f\"}",
+        ),
+        (
+            b"{\"a\":\"\xc3\xa9\xed\x9f\xbf\xee\x80\x80\xf0\x90\x80\x80\"}",
+            b"{\"a\":\"\xc3\xa9\xed\x9f\xbf\xee\x80\x80\xf0\x90\x80\x80\"}",
+        ),
+        (b"{\"a\":1,\"A\":2,\"a \":3}", b"{\"a\":1,\"A\":2,\"a \":3}"),
+        (b"{\"a\":{\"a\":{\"a\":1}}}", b"{\"a\":{\"a\":{\"a\":1}}}"),
+        (
+            b"{\"a\":\"\\u00e9\\/\\n\",\"b\":[1,-0.5e1,{}]}",
+            b"{\"a\":\"\xc3\xa9/\\n\",\"b\":[1,-0.5e1,{}]}",
+        ),
+        (
+            b"{\"a\":[[[[[[[[[[[[[[[]]]]]]]]]]]]]]]}",
+            b"{\"a\":[[[[[[[[[[[[[[[]]]]]]]]]]]]]]]}",
+        ),
+    ];
+    for row in table.iter() {
+        assert!(rt; reads(rt.alloc(), row.0, row.1));
+    }
+    Ok(())
+}
+
+#[test]
+fn names_the_first_byte_that_cannot_go_on(rt: HostRuntime) -> Result<(), Fail> {
+    let table: [(&[u8], usize); 46] = [
+        (b"", 0),
+        (b"  ", 2),
+        (b"[", 0),
+        (b"1", 0),
+        (b"{", 1),
+        (b"{}x", 2),
+        (b"{}{", 2),
+        (b"{,", 1),
+        (b"{a", 1),
+        (b"{\"a\"}", 4),
+        (b"{\"a\":}", 5),
+        (b"{\"a\":1,}", 7),
+        (b"{\"a\":1", 6),
+        (b"{\"a\":1]", 6),
+        (b"{\"a\" 1", 5),
+        (b"{\"a\":[1,]}", 8),
+        (b"{\"a\":[,", 6),
+        (b"{\"a\":[1}", 7),
+        (b"{\"a\":01}", 6),
+        (b"{\"a\":-}", 6),
+        (b"{\"a\":-01}", 7),
+        (b"{\"a\":+1}", 5),
+        (b"{\"a\":.5}", 5),
+        (b"{\"a\":1.}", 7),
+        (b"{\"a\":1.e1}", 7),
+        (b"{\"a\":1e}", 7),
+        (b"{\"a\":1e+}", 8),
+        (b"{\"a\":1x}", 6),
+        (b"{\"a\":nul}", 8),
+        (b"{\"a\":True}", 5),
+        (b"{\"a\":falsey}", 10),
+        (b"{\"a\":\"\\x\"}", 7),
+        (b"{\"a\":\"\\u12g4\"}", 10),
+        (b"{\"a\":\"\\ud800\"}", 12),
+        (b"{\"a\":\"\\udc00\"}", 9),
+        (b"{\"a\":\"\\ud800\\n\"}", 13),
+        (b"{\"a\":\"\\ud800\\u0041\"}", 14),
+        (b"{\"a\":\"\\ud800\\ud800\"}", 15),
+        (b"{\"a\":\"\n\"}", 6),
+        (b"{\"a\":\"\x1f\"}", 6),
+        (b"{\"a\":\"\x80\"}", 6),
+        (b"{\"a\":\"\xc0\x80\"}", 6),
+        (b"{\"a\":\"\xe0\x80\x80\"}", 7),
+        (b"{\"a\":\"\xed\xa0\x80\"}", 7),
+        (b"{\"a\":\"\xf4\x90\x80\x80\"}", 7),
+        (b"{\"a\":\"\xe2\x82\"}", 8),
+    ];
+    for row in table.iter() {
+        assert!(rt; refuses(rt.alloc(), row.0, JsonFault::Syntax { at: row.1 }));
+    }
+    Ok(())
+}
+
+// An object of so many members, `"k00":0` and so on.
+fn many(alloc: Global, count: u8) -> Result<Vec<u8>, AllocError> {
+    let mut text = Vec::new(alloc);
+    text.push(b'{')?;
+    for i in 0..count {
+        if i > 0 {
+            text.push(b',')?;
+        }
+        text.extend_from_slice(b"\"k")?;
+        text.push(b'0' + i / 10 % 10)?;
+        text.push(b'0' + i % 10)?;
+        text.extend_from_slice(b"\":0")?;
+    }
+    text.push(b'}')?;
+    Ok(text)
+}
+
+#[test]
+fn names_the_limit_that_a_byte_breaks(rt: HostRuntime) -> Result<(), Fail> {
+    let table: [(&[u8], JsonFault); 8] = [
+        (b"{\"a\":[[[[[[[[[[[[[[[[", JsonFault::Deep { at: 20 }),
+        (b"{\"a\":[[[[[[[[[[[[[[[{", JsonFault::Deep { at: 20 }),
+        (b"{\"a\":1,\"\\u0061\":2}", JsonFault::Duplicate { at: 14 }),
+        (
+            b"{\"cdniuc\":\"hash:x\",\"exp\":1,\"exp\":2}",
+            JsonFault::Duplicate { at: 31 },
+        ),
+        (b"{\"a\":1,\"a", JsonFault::Syntax { at: 9 }),
+        (b"{\"\":1,\"\"", JsonFault::Duplicate { at: 7 }),
+        (
+            b"{\"b\":{\"a\":1,\"a\":2}}",
+            JsonFault::Duplicate { at: 14 },
+        ),
+        (b"{\"cdniuc\":\"hash:x\"", JsonFault::Syntax { at: 18 }),
+    ];
+    for row in table.iter() {
+        assert!(rt; refuses(rt.alloc(), row.0, row.1));
+    }
+    let Ok(most) = many(rt.alloc(), 64) else {
+        return Ok(());
+    };
+    assert!(rt; reads(rt.alloc(), most.as_slice(), most.as_slice()));
+    let Ok(more) = many(rt.alloc(), 65) else {
+        return Ok(());
+    };
+    assert!(rt; refuses(rt.alloc(), more.as_slice(), JsonFault::Many { at: 512 }));
+    Ok(())
+}
+
+// `{"n":18,"t":"x","l":[true]}`, built, copied and changed.
+fn built(alloc: Global) -> Result<Members, crate::NoMemory> {
+    let mut items = Items::new(alloc);
+    items.push(Json::Bool(true))?;
+    let list = Json::List(items);
+    let mut members = Members::new(alloc);
+    members.push(Text::of(alloc, "n")?, Json::Null)?;
+    members.push(Text::of(alloc, "t")?, Json::Str(Text::of(alloc, "x")?))?;
+    members.push(Text::of(alloc, "l")?, list.copy(alloc)?)?;
+    if members.len() > 0 {
+        members.set(0, Json::Num(NumText::whole(alloc, 18)?));
+    }
+    Ok(members)
+}
+
+#[test]
+fn writes_what_was_pushed_and_set(rt: HostRuntime) -> Result<(), Fail> {
+    let Ok(members) = built(rt.alloc()) else {
+        assert!(rt; false);
+        return Ok(());
+    };
+    assert!(rt; members.len() == 3);
+    assert!(rt; members.find(b"t").is_some());
+    assert!(rt; members.find(b"x").is_none());
+    match write_members(rt.alloc(), &members) {
+        Ok(text) => assert!(rt;
+            text.as_slice() == b"{\"n\":18,\"t\":\"x\",\"l\":[true]}".as_slice()
+        ),
+        Err(_) => assert!(rt; false),
+    }
+    Ok(())
+}
