@@ -1,7 +1,7 @@
 #!/usr/bin/env python3
 """HMAC-SHA-256 over texts of 300 bytes: the built program, OpenSSL through Python's `hmac`, and `openssl speed`.
 
-Build the program first: `rt run -- 1` in crates/usp_bench. Usage: bench/hmac.py PROGRAM [COUNT]
+Build the program first: `rt run -- mac 1` in crates/usp_bench. Usage: bench/hmac.py PROGRAM [COUNT]
 PROGRAM is the built usp_bench. What is missing is skipped with a word. No test depends on a time.
 """
 import hashlib
@@ -19,7 +19,7 @@ def of_program(program, count):
     """Microseconds a MAC: the least of some rounds, without the start of the program."""
     def took(n):
         begin = time.perf_counter()
-        subprocess.run([program, str(n)], check=True, stdout=subprocess.DEVNULL)
+        subprocess.run([program, "mac", str(n)], check=True, stdout=subprocess.DEVNULL)
         return time.perf_counter() - begin
     return min(took(count) - took(0) for _ in range(ROUNDS)) / count * 1e6
 
