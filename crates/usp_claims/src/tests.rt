@@ -1,32 +1,137 @@
-// Payloads that are read, and payloads of another form.
-use crate::read_plain;
+// Claim sets that are read, and payloads that have none.
+use crate::{ClaimFault, ClaimName, read_claims, text};
+use std::alloc::Global;
 use std::test::Fail;
+use usp_json::{Json, JsonFault};
 
-// Whether the payload is read as this container and this expiry.
-fn reads_as(payload: &[u8], container: &[u8], expiry: u64) -> bool {
-    match read_plain(payload) {
-        None => false,
-        Some(plain) => plain.container == container && plain.expiry == expiry,
-    }
+const ALL: &[u8] =
+    b"{\"iss\":\"cp\",\"sub\":[],\"aud\":[\"a\",\"b\"],\"exp\":9007199254740991,\"nbf\":4,\"iat\":3,\"jti\":\"n\",\"cdniv\":1,\"cdnicrit\":\"x\",\"cdniuc\":\"hash:x\",\"cdniets\":4503599627370496,\"cdnistt\":1,\"cdnistd\":0,\"x\":null}";
+
+#[test]
+fn each_claim_is_read(rt: HostRuntime) -> Result<(), Fail> {
+    let alloc = rt.alloc();
+    let claims = read_claims(alloc, ALL)?;
+    assert_eq!(rt; claims.iss(), Some(b"cp".as_slice()));
+    assert_eq!(rt; claims.jti(), Some(b"n".as_slice()));
+    assert_eq!(rt; claims.crit(), Some(b"x".as_slice()));
+    assert_eq!(rt; claims.uc(), b"hash:x".as_slice());
+    assert_eq!(rt; claims.exp(), Some(9_007_199_254_740_991));
+    assert_eq!(rt; claims.nbf(), Some(4));
+    assert_eq!(rt; claims.iat(), Some(3));
+    assert_eq!(rt; claims.version(), Some(1));
+    assert_eq!(rt; claims.ets(), Some(4_503_599_627_370_496));
+    assert_eq!(rt; claims.stt(), Some(1));
+    assert_eq!(rt; claims.std(), Some(0));
+    assert_eq!(rt; claims.aud_has(b"b"), Some(true));
+    assert_eq!(rt; claims.aud_has(b"c"), Some(false));
+    assert!(rt; claims.encrypted());
+    assert!(rt; matches!(claims.value(b"x"), Some(Json::Null)));
+    assert!(rt; claims.value(b"y").is_none());
+    assert_eq!(rt; claims.text_len(), ALL.len());
+    Ok(())
 }
 
 #[test]
-fn one_form_of_claims_is_read(rt: HostRuntime) -> Result<(), Fail> {
-    assert!(rt; reads_as(b"{\"cdniuc\":\"hash:\",\"exp\":0}", b"hash:", 0));
-    let payload = b"{\"cdniuc\":\"hash:sha-256;aZ_9\",\"exp\":9007199254740991}";
-    assert!(rt; reads_as(payload, b"hash:sha-256;aZ_9", 9_007_199_254_740_991));
-    let others: [&[u8]; 8] = [
-        b"",
-        b"{\"cdniuc\":\"hash:a\",\"exp\":01}",
-        b"{\"cdniuc\":\"hash:a\",\"exp\":9007199254740992}",
-        b"{\"cdniuc\":\"hash:a\",\"exp\":1} ",
-        b"{\"cdniuc\":\"hash:a.b\",\"exp\":1}",
-        b"{\"cdniuc\":\"regex:a\",\"exp\":1}",
-        b"{\"exp\":1,\"cdniuc\":\"hash:a\"}",
-        b"{\"cdniuc\":\"hash:a\"}",
+fn the_canonical_text_has_no_white_space(rt: HostRuntime) -> Result<(), Fail> {
+    let alloc = rt.alloc();
+    let claims = read_claims(alloc, b"{\"cdniuc\":\"hash:x\",\r\n \"exp\":1}")?;
+    assert_eq!(rt;
+        text(alloc, &claims)?.as_slice(),
+        b"{\"cdniuc\":\"hash:x\",\"exp\":1}".as_slice()
+    );
+    assert_eq!(rt; claims.text_len(), 27);
+    assert_eq!(rt; claims.iss(), None);
+    assert_eq!(rt; claims.aud_has(b"a"), None);
+    assert!(rt; !claims.encrypted());
+    Ok(())
+}
+
+fn fault_of(alloc: Global, payload: &[u8]) -> Option<ClaimFault> {
+    read_claims(alloc, payload).err()
+}
+
+#[test]
+fn the_first_fault_of_a_payload_is_named(rt: HostRuntime) -> Result<(), Fail> {
+    let alloc = rt.alloc();
+    let rows: [(&[u8], Option<ClaimFault>); 13] = [
+        (b"{\"aud\":\"a\",\"cdniuc\":\"\"}", None),
+        (
+            b"{\"cdniuc\":\"hash:x\",\"exp\":1,\"exp\":2}",
+            Some(ClaimFault::Json(JsonFault::Duplicate { at: 31 })),
+        ),
+        (
+            b"{\"cdniuc\":\"hash:x\"",
+            Some(ClaimFault::Json(JsonFault::Syntax { at: 18 })),
+        ),
+        (b"{\"exp\":1}", Some(ClaimFault::NoContainer)),
+        (
+            b"{\"cdniuc\":1}",
+            Some(ClaimFault::Kind {
+                name: ClaimName::Uc,
+            }),
+        ),
+        (
+            b"{\"cdniuc\":\"hash:x\",\"exp\":1.0}",
+            Some(ClaimFault::Range {
+                name: ClaimName::Exp,
+            }),
+        ),
+        (
+            b"{\"cdniuc\":\"hash:x\",\"exp\":-1}",
+            Some(ClaimFault::Range {
+                name: ClaimName::Exp,
+            }),
+        ),
+        (
+            b"{\"exp\":9007199254740992}",
+            Some(ClaimFault::Range {
+                name: ClaimName::Exp,
+            }),
+        ),
+        (
+            b"{\"cdniets\":4503599627370497}",
+            Some(ClaimFault::Range {
+                name: ClaimName::Ets,
+            }),
+        ),
+        (
+            b"{\"exp\":\"1\",\"iss\":1}",
+            Some(ClaimFault::Kind {
+                name: ClaimName::Iss,
+            }),
+        ),
+        (
+            b"{\"iat\":true,\"nbf\":1e2}",
+            Some(ClaimFault::Range {
+                name: ClaimName::Nbf,
+            }),
+        ),
+        (
+            b"{\"aud\":[\"a\",1]}",
+            Some(ClaimFault::Kind {
+                name: ClaimName::Aud,
+            }),
+        ),
+        (
+            b"{\"cdnicrit\":null}",
+            Some(ClaimFault::Kind {
+                name: ClaimName::Crit,
+            }),
+        ),
     ];
-    for other in others {
-        assert!(rt; read_plain(other).is_none());
+    for (payload, expected) in rows {
+        assert_eq!(rt; fault_of(alloc, payload), expected);
     }
+    Ok(())
+}
+
+#[test]
+fn a_payload_has_at_most_4096_bytes(rt: HostRuntime) -> Result<(), Fail> {
+    let alloc = rt.alloc();
+    let mut payload = vec![in alloc; b' '; 4077]?;
+    payload.extend_from_slice(b"{\"cdniuc\":\"hash:x\"}")?;
+    assert_eq!(rt; fault_of(alloc, &payload), None);
+    payload.push(b' ')?;
+    assert_eq!(rt; fault_of(alloc, &payload), Some(ClaimFault::TooLong));
     Ok(())
 }

@@ -3,3 +3,4 @@ pub mod Decoded
 pub mod Dots
 pub mod Once
 pub mod Tokens
+pub mod Parameters

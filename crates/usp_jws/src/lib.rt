@@ -3,6 +3,7 @@
 
 mod base64url;
 mod fault;
+mod header;
 mod hmac;
 mod key;
 mod laws;
@@ -14,9 +15,10 @@ mod token;
 
 pub use base64url::is_base64url;
 pub use fault::NoMemory;
+pub use header::{Header, HeaderFault, read_header};
 pub use hmac::mac;
 pub use key::{Key, KeyFault};
-pub use laws::{exactly_one, refused_are_no_tokens, sealed_verifies};
+pub use laws::{exactly_one, refused_are_no_headers, refused_are_no_tokens, sealed_verifies};
 pub use parts::{Parts, TokenFault, split};
 pub use ring::{Ring, RingFault, verifier};
 pub use token::{Token, seal};

@@ -1,5 +1,6 @@
 // A token's three parts.
 ghost use Rattle.std.specs.Prelude.{◌≡◌, ◌∷◌, ◌++◌, ◌≤◌, length, IfOk, IfErr, MatchOption, position, ◌==◌};
+ghost use Rattle.usp_jws.specs.Base64url.{IsB64u};
 ghost use Rattle.usp_jws.specs.Compact.{Refuses, IsToken, dots};
 ghost use Rattle.usp_jws.specs.Parts.{signed_of, text_of};
 
@@ -40,7 +41,8 @@ impl<'a> Model for Parts<'a> {
 impl<'a> Parts<'a> {
     /// The header in base64url.
     pub fn header(&self) -> &'a [u8]
-        ensures { result.now ≡ self.now.header }
+        ensures value { result.now ≡ self.now.header }
+        ensures encoded { IsB64u result.now }
     {
         self.header
     }

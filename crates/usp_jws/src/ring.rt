@@ -7,7 +7,7 @@ ghost use Rattle.usp_jws.specs.Keys.{names, agrees, has_kid, first_repeat};
 ghost use Rattle.usp_jws.specs.Parts.{signed_of};
 ghost use Rattle.usp_jws.specs.Rings.{RefusesRing};
 
-use crate::{Key, Parts};
+use crate::{Header, Key, Parts};
 use base64::engine::general_purpose::URL_SAFE_NO_PAD;
 use std::marker::Model;
 
@@ -102,12 +102,30 @@ fn first_agreeing(
         .position(|key| agrees(kid, signed, signature, key))
 }
 
-/// The place of the first key that the header names, or of any key where it names none, and whose MAC
-/// over the first two parts is the signature (RFC 7515 section 5.2). None exactly where there is none.
-pub fn verifier(ring: &Ring, kid: Option<&[u8]>, parts: &Parts<'_>) -> Option<usize>
+// The first place of a key of that name, or of any key where there is no name, that agrees.
+pub(crate) fn verifier_named(ring: &Ring, kid: Option<&[u8]>, parts: &Parts<'_>) -> Option<usize>
     ensures { result ≡ position (agrees (option_copied kid.entry) (signed_of parts.now) parts.now.signature) ring.now }
 {
     first_agreeing(&ring.keys, kid, parts.signed(), parts.signature())
+}
+
+// The name of the key in a header.
+fn kid_in(header: &Header) -> Option<&[u8]>
+    ensures { option_copied result ≡ header.now.kid }
+{
+    match &header.kid {
+        None => None,
+        Some(kid) => Some(kid.text().as_bytes()),
+    }
+}
+
+/// The place of the first key that the header names, or of any key where it names none, and whose MAC
+/// over the first two parts is the signature (RFC 7515 section 5.2). None exactly where there is none. It
+/// takes no memory.
+pub fn verifier(ring: &Ring, header: &Header, parts: &Parts<'_>) -> Option<usize>
+    ensures { result ≡ position (agrees header.now.kid (signed_of parts.now) parts.now.signature) ring.now }
+{
+    verifier_named(ring, kid_in(header), parts)
 }
 
 impl Ring {

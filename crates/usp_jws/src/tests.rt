@@ -1,8 +1,13 @@
 // Outside vectors, and each public call once.
-use crate::{Key, KeyFault, Parts, Ring, RingFault, Token, TokenFault, mac, seal, split, verifier};
+use crate::ring::verifier_named;
+use crate::{
+    HeaderFault, Key, KeyFault, Parts, Ring, RingFault, Token, TokenFault, mac, read_header, seal,
+    split, verifier,
+};
 use base64::engine::general_purpose::URL_SAFE_NO_PAD;
 use std::alloc::Global;
 use std::test::Fail;
+use usp_json::JsonFault;
 
 // The token of RFC 7515 appendix A.1, and its key.
 const TOKEN: &str =
@@ -32,13 +37,19 @@ fn a_published_token_is_verified_and_its_last_letter_counts(rt: HostRuntime) -> 
     let secret = URL_SAFE_NO_PAD.decode(alloc, KEY.as_bytes())?;
     let ring = ring_of(alloc, &secret)?;
     let parts = split(TOKEN.as_bytes())?;
-    assert_eq!(rt; verifier(&ring, None, &parts), Some(1));
-    assert_eq!(rt; verifier(&ring, Some(b"k1".as_slice()), &parts), Some(1));
-    assert_eq!(rt; verifier(&ring, Some(b"k0".as_slice()), &parts), None);
+    let header = read_header(alloc, &parts)?;
+    assert!(rt; header.kid.is_none());
+    assert_eq!(rt; verifier(&ring, &header, &parts), Some(1));
+    assert_eq!(rt; verifier_named(&ring, None, &parts), Some(1));
+    assert_eq!(rt;
+        verifier_named(&ring, Some(b"k1".as_slice()), &parts),
+        Some(1)
+    );
+    assert_eq!(rt; verifier_named(&ring, Some(b"k0".as_slice()), &parts), None);
     let spare_bits = with_last(alloc, TOKEN, b'l')?;
     assert!(rt; matches!(split(&spare_bits), Err(TokenFault::NotB64 { part: 3 })));
     let other = with_last(alloc, TOKEN, b'g')?;
-    assert_eq!(rt; verifier(&ring, None, &split(&other)?), None);
+    assert_eq!(rt; verifier_named(&ring, None, &split(&other)?), None);
     Ok(())
 }
 
@@ -81,11 +92,16 @@ fn a_sealed_token_is_split_and_verified(rt: HostRuntime) -> Result<(), Fail> {
     assert!(rt; token.text().starts_with(begins.as_bytes()));
     assert_eq!(rt; token.text().len(), begins.len() + 43);
     let parts = split(token.text())?;
+    let header = read_header(alloc, &parts)?;
+    assert_eq!(rt; header.kid.as_ref().map(|kid| kid.text()), Some("k1"));
     assert_eq!(rt;
-        verifier(&ring_of(alloc, &[1; 32])?, Some(b"k1".as_slice()), &parts),
+        verifier(&ring_of(alloc, &[1; 32])?, &header, &parts),
         Some(1)
     );
-    assert_eq!(rt; verifier(&ring_of(alloc, &[2; 32])?, None, &parts), None);
+    assert_eq!(rt;
+        verifier_named(&ring_of(alloc, &[2; 32])?, None, &parts),
+        None
+    );
     let copy = Token::of(alloc, &parts)?;
     assert_eq!(rt; copy.text(), token.text());
     Ok(())
@@ -151,5 +167,52 @@ fn keys_and_rings_are_refused_by_their_first_fault(rt: HostRuntime) -> Result<()
     keys.push(Key::new(alloc, b"k2", b"cp", &[1; 32])?)?;
     keys.push(Key::new(alloc, b"k1", b"cp", &[2; 32])?)?;
     assert!(rt; matches!(Ring::new(keys), Err(RingFault::Repeat { place: 2 })));
+    Ok(())
+}
+
+// The fault of a header of this text, or None where it is right.
+fn header_fault(alloc: Global, header: &str) -> Result<Option<HeaderFault>, Fail> {
+    let mut token = URL_SAFE_NO_PAD
+        .encode(alloc, header.as_bytes())?
+        .into_bytes();
+    token.extend_from_slice(b"..")?;
+    let parts = split(&token)?;
+    Ok(read_header(alloc, &parts).err())
+}
+
+#[test]
+fn the_first_fault_of_a_header_is_named(rt: HostRuntime) -> Result<(), Fail> {
+    let alloc = rt.alloc();
+    let rows: [(&str, Option<HeaderFault>); 11] = [
+        ("{\"alg\":\"HS256\"}", None),
+        (" {\"x\":1,\"kid\":\"\",\"alg\":\"HS256\"}", None),
+        (
+            "{\"alg\":\"HS256\"",
+            Some(HeaderFault::Json(JsonFault::Syntax { at: 14 })),
+        ),
+        ("{\"typ\":\"JWT\"}", Some(HeaderFault::NoAlg)),
+        ("{\"alg\":\"none\"}", Some(HeaderFault::OtherAlg)),
+        (
+            "{\"alg\":256,\"crit\":[\"x\"]}",
+            Some(HeaderFault::OtherAlg),
+        ),
+        (
+            "{\"alg\":\"HS256\",\"crit\":[\"x\"],\"zip\":\"DEF\"}",
+            Some(HeaderFault::Crit),
+        ),
+        (
+            "{\"alg\":\"HS256\",\"enc\":null,\"zip\":\"DEF\"}",
+            Some(HeaderFault::Zip),
+        ),
+        (
+            "{\"alg\":\"HS256\",\"enc\":null,\"kid\":1}",
+            Some(HeaderFault::Enc),
+        ),
+        ("{\"alg\":\"HS256\",\"kid\":1}", Some(HeaderFault::BadKid)),
+        ("", Some(HeaderFault::Json(JsonFault::Syntax { at: 0 }))),
+    ];
+    for (header, expected) in rows {
+        assert_eq!(rt; header_fault(alloc, header)?, expected);
+    }
     Ok(())
 }

@@ -15,7 +15,9 @@ abbrev pub rule_text : Rule → List ℕ
 rule_text rule.Uri = codes "1 Uri"
 rule_text rule.Missing = codes "2 Missing"
 rule_text rule.Package = codes "3 Package"
+rule_text rule.Header = codes "4 Header"
 rule_text rule.Signature = codes "5 Signature"
+rule_text rule.Claims = codes "6 Claims"
 rule_text rule.Expired = codes "13 Expired"
 rule_text rule.Container = codes "15 Container"
 

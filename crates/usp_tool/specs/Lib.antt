@@ -3,5 +3,4 @@ pub mod Conf
 pub mod Judging
 pub mod Line
 pub mod Run
-pub mod Segment
 pub mod Words

@@ -67,7 +67,9 @@ fn rule_text(rule: Rule) -> &'static [u8]
         Rule::Uri => b"1 Uri",
         Rule::Missing => b"2 Missing",
         Rule::Package => b"3 Package",
+        Rule::Header => b"4 Header",
         Rule::Signature => b"5 Signature",
+        Rule::Claims => b"6 Claims",
         Rule::Expired => b"13 Expired",
         Rule::Container => b"15 Container",
     }

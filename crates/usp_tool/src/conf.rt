@@ -2,7 +2,7 @@
 ghost use Rattle.std.specs.Prelude.{◌≡◌, length, IfOk, IfSome};
 ghost use Rattle.std.specs.Option.{option_map};
 ghost use Rattle.std.specs.Result.{result_ok};
-ghost use Rattle.base64.specs.GeneralPurpose.{decode_of};
+ghost use Rattle.base64.specs.GeneralPurpose.{IsBytes, decode_of};
 ghost use Rattle.base64.specs.Engines.{url_safe_no_pad};
 ghost use Rattle.usp_tool.specs.Conf.{secret_of, is_conf_back};
 
@@ -26,7 +26,9 @@ fn is_back(text: &[u8]) -> bool
 
 /// The bytes of a text in base64url. None exactly where it is none.
 pub fn decoded(alloc: Global, text: &[u8]) -> Result<Option<Vec<u8>>, NoMemory>
-    ensures { IfOk result (λ found. option_map (λ bytes. bytes.items) found ≡ result_ok (decode_of url_safe_no_pad text.now)) }
+    ensures value { IfOk result (λ found. option_map (λ bytes. bytes.items) found ≡ result_ok (decode_of url_safe_no_pad text.now)) }
+    ensures bytes { IfOk result (λ found. IfSome found (λ bytes. IsBytes bytes.items)) }
+    ensures text { IsBytes text.now }
 {
     match URL_SAFE_NO_PAD.decode(alloc, text) {
         Ok(bytes) => Ok(Some(bytes)),

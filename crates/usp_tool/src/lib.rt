@@ -7,7 +7,6 @@ mod judging;
 mod line;
 mod program;
 mod reading;
-mod segment;
 #[cfg(test)]
 mod tests;
 mod tool;

@@ -10,9 +10,13 @@ pub enum Rule {
     Missing,
     /// The package ends as it may, and what it brings is a token.
     Package,
+    /// The token's header is one that is read (RFC 7515 section 4.1).
+    Header,
     /// A key of the ring verifies the token.
     Signature,
-    /// The expiry is above the moment.
+    /// The payload is a claim set (RFC 9246 section 2.1).
+    Claims,
+    /// There is no expiry, or it is above the moment.
     Expired,
     /// The container meets the content.
     Container,

@@ -1,0 +1,313 @@
+// Claim sets.
+ghost use Rattle.std.specs.Prelude.{◌≡◌, ◌≤◌, ◌||◌, true, not, codes, length, Some, IfOk, IfErr};
+ghost use Rattle.std.specs.List.{find};
+ghost use Rattle.std.specs.Option.{is_some, option_copied, option_map};
+ghost use Rattle.usp_json.specs.Canon.{canon_members};
+ghost use Rattle.usp_json.specs.Spells.{IsReading};
+ghost use Rattle.usp_claims.specs.Table.{IsClaimSet, claim, fits, is_audience, name_of, number_claim, period_claim, row, text_claim};
+ghost use Rattle.usp_claims.specs.declared.table.ClaimKind.TheVariants.{Number, Period, Text};
+ghost use Rattle.usp_claims.specs.Faults.{RefusesClaims, failure, fault_in, first_failing, json_fault};
+
+use crate::table::ROWS;
+use crate::values::{has_kind, in_range, is_audience, period_in, text_in, whole_in};
+use crate::{ClaimFault, ClaimName, NoMemory, Row};
+use std::alloc::Global;
+use std::marker::Model;
+use usp_json::{Json, JsonFault, Members, read_members, write_members};
+
+const LONGEST: usize = 4096;
+
+// Whether the row's claim is absent, or of its kind and in its range.
+fn fits(members: &Members, row: Row) -> bool
+    ensures { result ≡ fits members.now row }
+{
+    match members.find(row.name.name().as_bytes()) {
+        None => true,
+        Some(value) => has_kind(row.kind, value) && in_range(row.kind, value),
+    }
+}
+
+// The first of the rows that the members fail.
+fn first_of(members: &Members, rows: &[Row]) -> Option<Row>
+    ensures { result ≡ find (λ row. not (fits members.now row)) rows.now }
+{
+    for row in rows {
+        if !fits(members, *row) {
+            return Some(*row);
+        }
+    }
+    None
+}
+
+fn first_failing(members: &Members) -> Option<Row>
+    ensures { result ≡ first_failing members.now }
+{
+    first_of(members, &ROWS)
+}
+
+// How the members fail the row.
+fn failure(members: &Members, row: Row) -> ClaimFault
+    ensures { result ≡ failure members.now row }
+{
+    let name = row.name;
+    match members.find(name.name().as_bytes()) {
+        None => ClaimFault::Range { name },
+        Some(value) => {
+            if has_kind(row.kind, value) {
+                ClaimFault::Range { name }
+            } else {
+                ClaimFault::Kind { name }
+            }
+        }
+    }
+}
+
+// Why the members are no claim set.
+fn fault_in(members: &Members) -> Option<ClaimFault>
+    ensures { result ≡ fault_in members.now }
+{
+    match first_failing(members) {
+        Some(row) => Some(failure(members, row)),
+        None => match members.find(b"cdniuc") {
+            None => Some(ClaimFault::NoContainer),
+            Some(_) => None,
+        },
+    }
+}
+
+// A claim that is a text.
+fn text_claim(members: &Members, name: ClaimName) -> Option<&[u8]>
+    requires { fits members.now (row name Text) ≡ true }
+    ensures value { option_copied result ≡ text_claim (name_of name) members.now }
+    ensures there { is_some result ≡ is_some (claim (name_of name) members.now) }
+{
+    text_in(members.find(name.name().as_bytes())?)
+}
+
+// A claim that is a number.
+fn number_claim(members: &Members, name: ClaimName) -> Option<u64>
+    requires { fits members.now (row name Number) ≡ true }
+    ensures value { result ≡ number_claim (name_of name) members.now }
+    ensures there { is_some result ≡ is_some (claim (name_of name) members.now) }
+{
+    whole_in(members.find(name.name().as_bytes())?)
+}
+
+// A claim that is a period.
+fn period_claim(members: &Members, name: ClaimName) -> Option<u64>
+    requires { fits members.now (row name Period) ≡ true }
+    ensures value { result ≡ period_claim (name_of name) members.now }
+    ensures there { is_some result ≡ is_some (claim (name_of name) members.now) }
+{
+    period_in(members.find(name.name().as_bytes())?)
+}
+
+/// The claims of a signed URI. Contracts see their members.
+#[derive(Drop)]
+pub struct Claims {
+    members: Members,
+    text_len: usize,
+}
+
+impl Model for Claims {
+    ghost use Rattle.std.specs.Prelude.{◌≡◌, ◌≤◌, length};
+    ghost use Rattle.usp_json.specs.Canon.{canon_members};
+    ghost use Rattle.std.specs.Coded.{codes};
+    ghost use Rattle.usp_json.specs.contracts.value.Members as e;
+    ghost use Rattle.usp_json.specs.declared.value.Members.{Members};
+    ghost use Rattle.usp_claims.specs.Table.{IsClaimSet};
+
+    ghost Value = { Members };
+
+    ghost coded = { Prim.hlevel (codes, e.the_row.coded) };
+
+    ghost view = { λ c. c.members };
+
+    ghost invariant = { λ c. IsClaimSet c.members × (c.text_len ≡ length (canon_members c.members)) × (c.text_len ≤ 6000) };
+}
+
+// The fault of a payload that is no JSON.
+fn json_fault(fault: JsonFault) -> ClaimFault
+    ensures { result ≡ json_fault fault }
+{
+    match fault {
+        JsonFault::NoMemory => ClaimFault::NoMemory,
+        other => ClaimFault::Json(other),
+    }
+}
+
+// Whether the members are a claim set.
+fn check(members: &Members) -> Result<(), ClaimFault>
+    ensures set { IfOk result (λ done. IsClaimSet members.now) }
+    ensures fault { IfErr result (λ fault. fault_in members.now ≡ Some fault) }
+{
+    match fault_in(members) {
+        Some(fault) => Err(fault),
+        None => Ok(()),
+    }
+}
+
+/// Reads the claim set that a payload spells (RFC 7519 section 7.2, RFC 9246 section 2.1).
+#[tactic(auto, using(crate::proofs::Rows::refuses, crate::proofs::Shorter::no_longer))]
+pub fn read_claims(alloc: Global, payload: &[u8]) -> Result<Claims, ClaimFault>
+    ensures short { IfOk result (λ claims. length payload.now ≤ 4096) }
+    ensures read { IfOk result (λ claims. IsReading payload.now claims) }
+    ensures set { IfOk result (λ claims. IsClaimSet claims) }
+    ensures no_longer { IfOk result (λ claims. length (canon_members claims) ≤ length payload.now) }
+    ensures refused { IfErr result (λ fault. RefusesClaims fault payload.now) }
+{
+    if payload.len() > LONGEST {
+        return Err(ClaimFault::TooLong);
+    }
+    let members = match read_members(alloc, payload) {
+        Ok(members) => members,
+        Err(fault) => return Err(json_fault(fault)),
+    };
+    check(&members)?;
+    let text_len = write_members(alloc, &members)?.len();
+    Ok(Claims { members, text_len })
+}
+
+/// The canonical text of the claims: no white space, numbers as they were spelled, and in texts only
+/// what must be escaped (RFC 8259 section 7).
+pub fn text(alloc: Global, claims: &Claims) -> Result<Vec<u8>, NoMemory>
+    ensures { IfOk result (λ text. text.items ≡ canon_members claims.now) }
+{
+    Ok(write_members(alloc, &claims.members)?)
+}
+
+impl Claims {
+    /// The claims as members, in their order.
+    pub fn members(&self) -> &Members
+        ensures { result.now ≡ self.now }
+    {
+        &self.members
+    }
+
+    /// The value of the claim of that name.
+    pub fn value(&self, name: &[u8]) -> Option<&Json>
+        ensures { option_copied result ≡ claim name.now self.now }
+    {
+        self.members.find(name)
+    }
+
+    /// `iss`, who signed (RFC 7519 section 4.1.1).
+    #[tactic(auto, using(crate::proofs::Rows::iss_fits))]
+    pub fn iss(&self) -> Option<&[u8]>
+        ensures value { option_copied result ≡ text_claim (codes "iss") self.now }
+        ensures there { is_some result ≡ is_some (claim (codes "iss") self.now) }
+    {
+        text_claim(&self.members, ClaimName::Iss)
+    }
+
+    /// `jti`, a nonce (RFC 7519 section 4.1.7).
+    #[tactic(auto, using(crate::proofs::Rows::jti_fits))]
+    pub fn jti(&self) -> Option<&[u8]>
+        ensures value { option_copied result ≡ text_claim (codes "jti") self.now }
+        ensures there { is_some result ≡ is_some (claim (codes "jti") self.now) }
+    {
+        text_claim(&self.members, ClaimName::Jti)
+    }
+
+    /// `cdnicrit`, the names of the claims that must be understood (RFC 9246 section 2.1.9).
+    #[tactic(auto, using(crate::proofs::Rows::crit_fits))]
+    pub fn crit(&self) -> Option<&[u8]>
+        ensures value { option_copied result ≡ text_claim (codes "cdnicrit") self.now }
+        ensures there { is_some result ≡ is_some (claim (codes "cdnicrit") self.now) }
+    {
+        text_claim(&self.members, ClaimName::Crit)
+    }
+
+    /// `cdniuc`, the container of the URI (RFC 9246 section 2.1.11).
+    #[tactic(auto, using(crate::proofs::Rows::uc_fits, crate::proofs::Rows::uc_contained))]
+    pub fn uc(&self) -> &[u8]
+        ensures { text_claim (codes "cdniuc") self.now ≡ Some result.now }
+    {
+        text_claim(&self.members, ClaimName::Uc).unwrap()
+    }
+
+    /// `exp`, the second since 1970 at which the claims expire (RFC 7519 section 4.1.4).
+    #[tactic(auto, using(crate::proofs::Rows::exp_fits))]
+    pub fn exp(&self) -> Option<u64>
+        ensures value { result ≡ number_claim (codes "exp") self.now }
+        ensures there { is_some result ≡ is_some (claim (codes "exp") self.now) }
+    {
+        number_claim(&self.members, ClaimName::Exp)
+    }
+
+    /// `nbf`, the second since 1970 before which they are not yet valid (RFC 7519 section 4.1.5).
+    #[tactic(auto, using(crate::proofs::Rows::nbf_fits))]
+    pub fn nbf(&self) -> Option<u64>
+        ensures value { result ≡ number_claim (codes "nbf") self.now }
+        ensures there { is_some result ≡ is_some (claim (codes "nbf") self.now) }
+    {
+        number_claim(&self.members, ClaimName::Nbf)
+    }
+
+    /// `iat`, the second since 1970 at which they were signed (RFC 7519 section 4.1.6).
+    #[tactic(auto, using(crate::proofs::Rows::iat_fits))]
+    pub fn iat(&self) -> Option<u64>
+        ensures value { result ≡ number_claim (codes "iat") self.now }
+        ensures there { is_some result ≡ is_some (claim (codes "iat") self.now) }
+    {
+        number_claim(&self.members, ClaimName::Iat)
+    }
+
+    /// `cdniv`, the version (RFC 9246 section 2.1.8).
+    #[tactic(auto, using(crate::proofs::Rows::version_fits))]
+    pub fn version(&self) -> Option<u64>
+        ensures value { result ≡ number_claim (codes "cdniv") self.now }
+        ensures there { is_some result ≡ is_some (claim (codes "cdniv") self.now) }
+    {
+        number_claim(&self.members, ClaimName::Version)
+    }
+
+    /// `cdniets`, the seconds that renewed claims live (RFC 9246 section 2.1.12).
+    #[tactic(auto, using(crate::proofs::Rows::ets_fits))]
+    pub fn ets(&self) -> Option<u64>
+        ensures value { result ≡ period_claim (codes "cdniets") self.now }
+        ensures there { is_some result ≡ is_some (claim (codes "cdniets") self.now) }
+    {
+        period_claim(&self.members, ClaimName::Ets)
+    }
+
+    /// `cdnistt`, how a renewed token is carried (RFC 9246 section 2.1.13).
+    #[tactic(auto, using(crate::proofs::Rows::stt_fits))]
+    pub fn stt(&self) -> Option<u64>
+        ensures value { result ≡ number_claim (codes "cdnistt") self.now }
+        ensures there { is_some result ≡ is_some (claim (codes "cdnistt") self.now) }
+    {
+        number_claim(&self.members, ClaimName::Stt)
+    }
+
+    /// `cdnistd`, how many segments the path of its cookie has (RFC 9246 section 2.1.14).
+    #[tactic(auto, using(crate::proofs::Rows::std_fits))]
+    pub fn std(&self) -> Option<u64>
+        ensures value { result ≡ number_claim (codes "cdnistd") self.now }
+        ensures there { is_some result ≡ is_some (claim (codes "cdnistd") self.now) }
+    {
+        number_claim(&self.members, ClaimName::Std)
+    }
+
+    /// Whether `aud` is that identity, or a list that has it. None where there is no `aud` (RFC 7519 section 4.1.3).
+    pub fn aud_has(&self, identity: &[u8]) -> Option<bool>
+        ensures { result ≡ option_map (is_audience identity.now) (claim (codes "aud") self.now) }
+    {
+        Some(is_audience(self.members.find(b"aud")?, identity))
+    }
+
+    /// Whether `sub` or `cdniip` is a claim: both are encrypted (RFC 9246 sections 2.1.2 and 2.1.10).
+    pub fn encrypted(&self) -> bool
+        ensures { result ≡ (is_some (claim (codes "sub") self.now) || is_some (claim (codes "cdniip") self.now)) }
+    {
+        self.members.find(b"sub").is_some() || self.members.find(b"cdniip").is_some()
+    }
+
+    /// How many bytes the canonical text has.
+    pub fn text_len(&self) -> usize
+        ensures value { result ≡ length (canon_members self.now) }
+        ensures bound { result ≤ 6000 }
+    {
+        self.text_len
+    }
+}
