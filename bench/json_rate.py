@@ -1,7 +1,7 @@
 #!/usr/bin/env python3
 """Reading a claim set of about 4,000 bytes: the built program, and Python's `json`, in one run.
 
-Build the program first: `rt run -- json 1` in crates/usp_bench. Usage: bench/json.py PROGRAM [COUNT]
+Build the program first: `rt run -- json 1` in crates/usp_bench. Usage: bench/json_rate.py PROGRAM [COUNT]
 PROGRAM is the built usp_bench. No test depends on a time.
 """
 import json

@@ -2,7 +2,7 @@
 """URIs a second: the normal form of the built program, and Python's `urllib.parse.urlsplit`, in one run.
 
 The two do not do the same: urlsplit cuts a URI, and the program also tests each byte and makes the normal form.
-Build the program first: `rt run -- uri 1` in crates/usp_bench. Usage: bench/uri.py PROGRAM [COUNT]
+Build the program first: `rt run -- uri 1` in crates/usp_bench. Usage: bench/uri_rate.py PROGRAM [COUNT]
 PROGRAM is the built usp_bench. No test depends on a time.
 """
 import subprocess

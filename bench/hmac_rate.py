@@ -1,7 +1,7 @@
 #!/usr/bin/env python3
 """HMAC-SHA-256 over texts of 300 bytes: the built program, OpenSSL through Python's `hmac`, and `openssl speed`.
 
-Build the program first: `rt run -- mac 1` in crates/usp_bench. Usage: bench/hmac.py PROGRAM [COUNT]
+Build the program first: `rt run -- mac 1` in crates/usp_bench. Usage: bench/hmac_rate.py PROGRAM [COUNT]
 PROGRAM is the built usp_bench. What is missing is skipped with a word. No test depends on a time.
 """
 import hashlib
