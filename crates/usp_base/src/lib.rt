@@ -1,6 +1,7 @@
 //! What the program meets outside itself, as traits, with forms in memory.
 #![tactic(auto)]
 
+mod blanks;
 mod cuts;
 mod fault;
 mod files;
@@ -14,6 +15,7 @@ mod steps;
 #[cfg(test)]
 mod tests;
 
+pub use blanks::trim_blanks;
 pub use cuts::{after_prefix, cut_at, without_end};
 pub use fault::{Failed, LoadFault, Status};
 pub use files::{Files, ListedFiles, MemoryFile, SteadyFiles};

@@ -1,2 +1,6 @@
 pub mod Prefixes
 pub mod Meeting
+pub mod Readings
+pub mod Single
+pub mod Firsts
+pub mod Wanted

@@ -1,3 +1,11 @@
+pub mod Asks
+pub mod Constraints
 pub mod Containers
+pub mod Critical
+pub mod Judging
 pub mod Kinds
+pub mod Memory
+pub mod Names
+pub mod Rules
 pub mod Segment
+pub mod Tokens

@@ -1,12 +1,25 @@
 //! What a token says of a request: its container, and the rules (RFC 9246 sections 2 and 3).
 #![tactic(auto)]
 
+mod ask;
+mod chain;
+mod constraints;
 mod container;
+mod critical;
 mod fault;
+mod judged;
+mod profile;
+mod rule;
 mod segment;
 #[cfg(test)]
 mod tests;
+mod token;
 
+pub use ask::Ask;
 pub use container::Container;
 pub use fault::NoMemory;
+pub use chain::judge;
+pub use judged::Judged;
+pub use profile::Profile;
+pub use rule::Rule;
 pub use segment::segment_of;
