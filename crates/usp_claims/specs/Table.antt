@@ -6,7 +6,8 @@ use Rattle.usp_base.specs.Numbers.{number_of}
 use Rattle.usp_json.specs.Entries.{entries, value_of}
 use Rattle.usp_json.specs.declared.value.Json.{Json}
 use Rattle.usp_json.specs.declared.value.Members.{Members}
-use Rattle.usp_claims.specs.Values.{text_in, is_text, number_in, is_texts, is_this, lists}
+use Rattle.usp_json.specs.Scalars.{text_in, number_in}
+use Rattle.usp_claims.specs.Values.{is_text, is_texts, is_this, lists}
 use Rattle.usp_claims.specs.declared.table.ClaimName.{ClaimName}
 use Rattle.usp_claims.specs.declared.table.ClaimName.TheVariants.{Iss, Sub, Aud, Exp, Nbf, Iat, Jti, Version, Crit, Ip, Uc, Ets, Stt, Std}
 use Rattle.usp_claims.specs.declared.table.ClaimKind.{ClaimKind}

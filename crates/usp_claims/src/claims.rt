@@ -9,7 +9,7 @@ ghost use Rattle.usp_claims.specs.declared.table.ClaimKind.TheVariants.{Number, 
 ghost use Rattle.usp_claims.specs.Faults.{RefusesClaims, failure, fault_in, first_failing, json_fault};
 
 use crate::table::ROWS;
-use crate::values::{has_kind, in_range, is_audience, period_in, text_in, whole_in};
+use crate::values::{has_kind, in_range, is_audience, period_in, whole_in};
 use crate::{ClaimFault, ClaimName, NoMemory, Row};
 use std::alloc::Global;
 use std::marker::Model;
@@ -81,7 +81,7 @@ fn text_claim(members: &Members, name: ClaimName) -> Option<&[u8]>
     ensures value { option_copied result ≡ text_claim (name_of name) members.now }
     ensures there { is_some result ≡ is_some (claim (name_of name) members.now) }
 {
-    text_in(members.find(name.name().as_bytes())?)
+    members.find(name.name().as_bytes())?.text()
 }
 
 // A claim that is a number.
