@@ -15,7 +15,7 @@ use Rattle.usp_claims.specs.declared.table.Row.{Row}
 use Rattle.usp_claims.specs.declared.table.ClaimName.TheVariants.{Iss, Exp, Nbf, Iat, Jti, Version, Crit, Uc, Ets, Stt, Std}
 use Rattle.usp_claims.specs.declared.table.ClaimKind.TheVariants.{Text, Number, Period}
 
-tells : (b : Bool) → (b ≡ true) ⊎ (b ≡ false)
+pub tells : (b : Bool) → (b ≡ true) ⊎ (b ≡ false)
 tells true = inl refl
 tells false = inr refl
 

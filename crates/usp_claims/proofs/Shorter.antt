@@ -79,7 +79,7 @@ past_quote b = if b == 92 then codes "\\\\" else past_backslash b
 past_quote_size : (b : ℕ) → length (past_quote b) ≤ 6
 past_quote_size b = pick (b == 92) (codes "\\\\") (past_backslash b) (within_six 2 (codes "\\\\") refl (omega arith)) (past_backslash_size b)
 
-escape_size : (b : ℕ) → length (escape_of b) ≤ 6
+pub escape_size : (b : ℕ) → length (escape_of b) ≤ 6
 escape_size b = pick (b == 34) (codes "\\\"") (past_quote b) (within_six 2 (codes "\\\"") refl (omega arith)) (past_quote_size b)
 
 record IsShort (c : ℕ) : Type 0 where
@@ -170,7 +170,7 @@ chars_short _ _ (more c bytes front back all text s rest is spelled) =
     let f : length text ≡ length front + length back = rw spelled (length-append front back) in
     omega arith
 
-quoted : (text : List ℕ) → length (34 ∷ (text ++ 34 ∷ [])) ≡ length text + 2
+pub quoted : (text : List ℕ) → length (34 ∷ (text ++ 34 ∷ [])) ≡ length text + 2
 quoted text = let e = length-append text (34 ∷ []) in omega arith
 
 text_short : (bytes text : List ℕ) → SpellsText bytes text → length (canon_text bytes) ≤ length text
@@ -181,7 +181,7 @@ text_short bytes text s =
     omega arith
 
 -- between brackets
-bracketed : (l r : ℕ) (xs : List ℕ) → length (l ∷ (xs ++ r ∷ [])) ≡ length xs + 2
+pub bracketed : (l r : ℕ) (xs : List ℕ) → length (l ∷ (xs ++ r ∷ [])) ≡ length xs + 2
 bracketed l r xs = let e = length-append xs (r ∷ []) in omega arith
 
 -- the texts with commas between them are shorter than with a comma before each
@@ -189,10 +189,10 @@ commas_size : (texts : List (List ℕ)) → length (commas texts) ≤ length (be
 commas_size [] = omega arith
 commas_size (text ∷ texts) = omega arith
 
-behind_size : (text : List ℕ) (texts : List (List ℕ)) → length (behind (text ∷ texts)) ≡ 1 + length text + length (behind texts)
+pub behind_size : (text : List ℕ) (texts : List (List ℕ)) → length (behind (text ∷ texts)) ≡ 1 + length text + length (behind texts)
 behind_size text texts = let e = length-append text (behind texts) in omega arith
 
-member_size : (name text : List ℕ) → length (member_of (name, text)) ≡ length (canon_text name) + 1 + length text
+pub member_size : (name text : List ℕ) → length (member_of (name, text)) ≡ length (canon_text name) + 1 + length text
 member_size name text = let e = length-append (canon_text name) (58 ∷ text) in omega arith
 
 canon_null : canon Null ≡ codes "null"
@@ -201,10 +201,10 @@ canon_null = ap canon (sym rolls-Null) ∙ fold-roll-Json (List ℕ) (List ℕ) 
 canon_boolean : (b : Bool) → canon (Boolean b) ≡ word_of b
 canon_boolean b = ap canon (sym (rolls-Bool b)) ∙ fold-roll-Json (List ℕ) (List ℕ) (List ℕ) canon_step items_step members_step (level.Bool b)
 
-canon_number : (text : List ℕ) → canon (Num text) ≡ text
+pub canon_number : (text : List ℕ) → canon (Num text) ≡ text
 canon_number text = ap canon (sym (rolls-Num text)) ∙ fold-roll-Json (List ℕ) (List ℕ) (List ℕ) canon_step items_step members_step (level.Num text)
 
-canon_string : (bytes : List ℕ) → canon (Str bytes) ≡ canon_text bytes
+pub canon_string : (bytes : List ℕ) → canon (Str bytes) ≡ canon_text bytes
 canon_string bytes = ap canon (sym (rolls-Str bytes)) ∙ fold-roll-Json (List ℕ) (List ℕ) (List ℕ) canon_step items_step members_step (level.Str bytes)
 
 canon_array : (values : List Json) → canon (array_of values) ≡ 91 ∷ (commas (map canon values) ++ 93 ∷ [])
@@ -213,10 +213,10 @@ canon_array values =
     ap canon (sym (rolls-List row)) ∙ (fold-roll-Json (List ℕ) (List ℕ) (List ℕ) canon_step items_step members_step (level.List row)
     ∙ fold-roll-Items (List ℕ) (List ℕ) (List ℕ) canon_step items_step members_step (record { values = values }))
 
-abbrev object_text : List (List ℕ) → List Json → List ℕ
+abbrev pub object_text : List (List ℕ) → List Json → List ℕ
 object_text names values = 123 ∷ (commas (map member_of (zip names (map canon values))) ++ 125 ∷ [])
 
-canon_of : (names : List (List ℕ)) (values : List Json) → canon_members (members_of names values) ≡ object_text names values
+pub canon_of : (names : List (List ℕ)) (values : List Json) → canon_members (members_of names values) ≡ object_text names values
 canon_of names values = fold-roll-Members (List ℕ) (List ℕ) (List ℕ) canon_step items_step members_step (record { names = names; values = values })
 
 canon_object : (names : List (List ℕ)) (values : List Json) → canon (object_of names values) ≡ object_text names values
