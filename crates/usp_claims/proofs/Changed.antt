@@ -1,5 +1,5 @@
 -- One claim changed.
-use Rattle.std.proofs.Common.{◌≡◌, ◌⊎◌, ℕ, zero, suc, ◌+◌, ◌-◌, ◌<◌, ◌≤◌, Bool, true, false, cond, ltb, List, [], ◌∷◌, ◌++◌, length, get_or, map, set, Option, Some, None, inl, inr, refl, sym, ap, ◌∙◌, subst, arith, length-append, length-set, if◌then◌else◌}
+use Rattle.std.proofs.Common.{◌≡◌, ℕ, zero, suc, ◌<◌, ◌≤◌, Bool, true, false, List, [], ◌∷◌, ◌++◌, length, get_or, map, set, Some, None, refl, sym, ap, ◌∙◌, arith, length-append, length-set}
 use Rattle.std.specs.List.{zip, position_or_len}
 use Rattle.std.proofs.lemmas.Slice.Zip.{length-zip}
 use Rattle.std.proofs.lemmas.List.Quantifiers.{position-Some}
@@ -9,8 +9,7 @@ use Rattle.std.specs.Str.{bytes_eq}
 use Rattle.usp_json.specs.declared.value.Json.{Json}
 use Rattle.usp_json.specs.declared.value.Members.{Members}
 use Rattle.usp_json.specs.declared.value.Json.TheViews.{roll-out-Members}
-use Rattle.usp_json.specs.Entries.{entries, members_of, place_of, value_of, IsPaired}
-use Rattle.usp_json.specs.Spells.{has_name}
+use Rattle.usp_json.specs.Entries.{entries, members_of, place_of, IsPaired}
 use Rattle.usp_claims.specs.Table.{name_of}
 use Rattle.usp_claims.specs.Changes.{with_entry, of_entries, with_claim}
 use Rattle.usp_claims.specs.declared.table.ClaimName.{ClaimName}

@@ -1,20 +1,18 @@
 -- Texts and numbers as values of claims.
-use Rattle.std.proofs.Common.{◌≡◌, ◌≢◌, ◌⊎◌, ℕ, ◌+◌, ◌-◌, ◌*◌, ◌/◌, ◌%◌, ◌^◌, ◌<◌, ◌≤◌, ◌==◌, ◌&&◌, not, nat_le, Bool, true, false, List, [], ◌∷◌, ◌++◌, length, Option, Some, None, inl, inr, refl, sym, ap, ◌∙◌, subst, arith, le-leb}
+use Rattle.std.proofs.Common.{◌≡◌, ◌≢◌, ◌⊎◌, ℕ, ◌+◌, ◌-◌, ◌*◌, ◌/◌, ◌%◌, ◌^◌, ◌<◌, ◌≤◌, true, List, [], ◌∷◌, ◌++◌, Some, inl, inr, refl, sym, ap, ◌∙◌, arith, le-leb}
 use Rattle.std.specs.Fmt.{decimal}
 use Rattle.std.specs.List.{list_all, slice_get}
-use Rattle.std.specs.Option.{is_some, option_and_then}
 use Rattle.std.proofs.lemmas.Bool.{and_parts}
 use Rattle.std.proofs.lemmas.Bool.Decides.{eqb_tells}
 use Rattle.std.proofs.lemmas.Fmt.{decimal_by_steps}
 use Rattle.usp_base.specs.Numbers.{is_digit, value_from, value_of, is_whole, number_of}
-use Rattle.usp_json.specs.declared.value.Json.{Json, out-Json}
 use Rattle.usp_json.specs.declared.value.Json.TheOpen as level
 use Rattle.usp_json.specs.declared.value.Json.TheVariants.{Num, Str, rolls-Num, rolls-Str}
 use Rattle.usp_json.specs.declared.value.Json.TheViews.{out-roll-Json}
 use Rattle.usp_json.specs.declared.value.Members.{Members}
 use Rattle.usp_json.proofs.CharLemmas.{differs}
 use Rattle.usp_json.specs.Scalars.{text_in, number_in, level_text, level_number}
-use Rattle.usp_claims.specs.Table.{name_of, row, rows, has_kind, in_range, whole_in, number_claim, IsClaimSet}
+use Rattle.usp_claims.specs.Table.{name_of, row, rows, whole_in, number_claim, IsClaimSet}
 use Rattle.usp_claims.specs.Changes.{with_claim}
 use Rattle.usp_claims.specs.declared.table.ClaimName.{ClaimName}
 use Rattle.usp_claims.specs.declared.table.ClaimKind.TheVariants.{Text, Number}

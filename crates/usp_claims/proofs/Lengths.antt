@@ -1,5 +1,5 @@
 -- How long the canonical text is with one claim changed.
-use Rattle.std.proofs.Common.{◌≡◌, ℕ, ◌+◌, ◌*◌, ◌-◌, ◌^◌, ◌<◌, ◌≤◌, true, false, List, [], ◌∷◌, ◌++◌, length, map, Option, Some, None, inl, inr, refl, sym, ap, ◌∙◌, arith}
+use Rattle.std.proofs.Common.{◌≡◌, ℕ, ◌+◌, ◌*◌, ◌-◌, ◌<◌, ◌≤◌, true, List, [], ◌∷◌, ◌++◌, length, map, Option, Some, None, inl, inr, refl, sym, ap, ◌∙◌, arith}
 use Rattle.std.specs.Fmt.{decimal}
 use Rattle.std.specs.List.{zip}
 use Rattle.std.specs.Option.{is_some}
@@ -17,7 +17,8 @@ use Rattle.usp_claims.specs.declared.table.ClaimName.{ClaimName}
 use Rattle.usp_claims.specs.declared.table.ClaimName.TheVariants.{Iss, Sub, Aud, Exp, Nbf, Iat, Jti, Version, Crit, Ip, Uc, Ets, Stt, Std}
 use Rattle.usp_claims.proofs.Changed.{whole}
 use Rattle.usp_claims.proofs.Rows.{tells}
-use Rattle.usp_claims.proofs.Shorter.{escape_size, quoted, bracketed, behind_size, member_size, canon_number, canon_string, canon_of, object_text}
+use Rattle.usp_claims.proofs.Shorter.{escape_size, quoted, bracketed, behind_size, member_size}
+use Rattle.usp_json.proofs.CanonLaws.{canon_number, canon_string, canon_of}
 
 abbrev spelled : List ℕ × Json → List ℕ
 spelled entry = member_of (entry.0, canon entry.1)

@@ -1,5 +1,5 @@
 -- Each name stands once, beside one value, also with one claim changed.
-use Rattle.std.proofs.Common.{◌≡◌, ◌⊎◌, ℕ, suc, ◌+◌, ◌<◌, ◌≤◌, ◌||◌, Bool, true, false, List, [], ◌∷◌, ◌++◌, length, get_or, set, Option, Some, None, inl, inr, refl, sym, ap, ◌∙◌, subst, arith, length-append, length-set}
+use Rattle.std.proofs.Common.{◌≡◌, ℕ, suc, ◌<◌, ◌≤◌, false, List, [], ◌∷◌, ◌++◌, length, get_or, set, Option, Some, None, refl, sym, ◌∙◌, subst, arith, length-append, length-set}
 use Rattle.std.specs.List.{zip}
 use Rattle.std.specs.Str.{bytes_eq, IsUtf8}
 use Rattle.std.proofs.lemmas.Slice.Zip.{length-zip}
@@ -8,7 +8,7 @@ use Rattle.usp_json.specs.declared.value.Json.{Json}
 use Rattle.usp_json.specs.declared.value.Members.{Members}
 use Rattle.usp_json.specs.Entries.{entries, members_of, place_of, IsPaired}
 use Rattle.usp_json.specs.Kept.{Keeps, KeepMembers, members, KeepsLimits}
-use Rattle.usp_json.specs.Spells.{given, has_name, AreApart, IsReading}
+use Rattle.usp_json.specs.Spells.{given, has_name, IsReading}
 use Rattle.usp_json.proofs.GrowLaws.{apart_snoc}
 use Rattle.usp_json.proofs.KeepLaws.{reading_keeps, set_keeps, push_keeps}
 use Rattle.usp_claims.specs.Table.{name_of}

@@ -1,5 +1,5 @@
 -- The claims that the tests change.
-use Rattle.std.proofs.Common.{◌≡◌, ℕ, ◌*◌, ◌+◌, ◌<◌, ◌≤◌, List, length, refl, arith}
+use Rattle.std.proofs.Common.{◌≡◌, ℕ, ◌<◌, ◌≤◌, List, length, refl, arith}
 use Rattle.std.specs.Fmt.{decimal}
 use Rattle.usp_json.specs.declared.value.Json.TheVariants.{Num, Str}
 use Rattle.usp_json.specs.declared.value.Members.{Members}

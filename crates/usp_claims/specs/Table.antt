@@ -1,6 +1,6 @@
 -- The claims and what each may be (RFC 7519 section 4.1, RFC 9246 section 2.1).
-use Rattle.std.specs.Prelude.{◌≡◌, ℕ, Bool, true, false, not, ◌&&◌, ◌||◌, List, [], ◌∷◌, codes, Option, Some, None}
-use Rattle.std.specs.List.{All, find}
+use Rattle.std.specs.Prelude.{◌≡◌, ℕ, Bool, true, ◌&&◌, ◌||◌, List, [], ◌∷◌, codes, Option}
+use Rattle.std.specs.List.{All}
 use Rattle.std.specs.Option.{is_some, option_map_or, option_and_then}
 use Rattle.usp_base.specs.Numbers.{number_of}
 use Rattle.usp_json.specs.Entries.{entries, value_of}

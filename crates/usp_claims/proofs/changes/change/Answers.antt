@@ -1,5 +1,4 @@
-use Rattle.std.proofs.Common.{◌≡◌, sym, ◌∙◌}
-use Rattle.usp_json.specs.Entries.{place_of}
+use Rattle.std.proofs.Common.{sym, ◌∙◌}
 use Rattle.usp_claims.specs.Table.{name_of}
 use Rattle.usp_claims.proofs.Changed.{place_within, present, absent}
 use Rattle.usp_claims.proofs.changes.change.Goals as goal

@@ -1,4 +1,4 @@
-use Rattle.std.proofs.Common.{◌≡◌, sym, arith}
+use Rattle.std.proofs.Common.{sym, arith}
 use Rattle.usp_claims.specs.declared.table.ClaimName.TheVariants.{Uc}
 use Rattle.usp_claims.proofs.Lengths.{exchanged, appended}
 use Rattle.usp_claims.proofs.changes.length_with.Goals as goal
