@@ -1,3 +1,9 @@
+pub mod ChangeLaws
+pub mod Changed
+pub mod Decimals
+pub mod Lengths
+pub mod Named
 pub mod Refused
 pub mod Rows
+pub mod Samples
 pub mod Shorter

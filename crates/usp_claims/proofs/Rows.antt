@@ -1,5 +1,5 @@
 -- What a claim set says of each row.
-use Rattle.std.proofs.Common.{◌≡◌, ◌⊎◌, ℕ, zero, suc, ◌+◌, ◌<◌, ◌≤◌, Bool, true, false, not, ◌&&◌, ◌||◌, List, [], ◌∷◌, drop, length, Option, Some, None, inl, inr, refl, sym, subst, arith, if◌then◌else◌}
+use Rattle.std.proofs.Common.{◌≡◌, ◌⊎◌, ℕ, zero, suc, ◌+◌, ◌≤◌, Bool, true, false, not, List, [], ◌∷◌, drop, length, Option, Some, None, inl, inr, refl, sym, subst, arith, if◌then◌else◌}
 use Rattle.std.specs.List.{All, find, list_all, list_any, slice_get}
 use Rattle.std.specs.Option.{is_some, option_map_or}
 use Rattle.usp_json.proofs.Pairs.{next_entry}
@@ -15,7 +15,7 @@ use Rattle.usp_claims.specs.declared.table.Row.{Row}
 use Rattle.usp_claims.specs.declared.table.ClaimName.TheVariants.{Iss, Exp, Nbf, Iat, Jti, Version, Crit, Uc, Ets, Stt, Std}
 use Rattle.usp_claims.specs.declared.table.ClaimKind.TheVariants.{Text, Number, Period}
 
-tells : (b : Bool) → (b ≡ true) ⊎ (b ≡ false)
+pub tells : (b : Bool) → (b ≡ true) ⊎ (b ≡ false)
 tells true = inl refl
 tells false = inr refl
 

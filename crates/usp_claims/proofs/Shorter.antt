@@ -1,5 +1,5 @@
 -- The canonical text is no longer than any other spelling.
-use Rattle.std.proofs.Common.{◌≡◌, ◌≢◌, ℕ, suc, ◌+◌, ◌-◌, ◌*◌, ◌/◌, ◌%◌, ◌<◌, ◌≤◌, ◌==◌, nat_lt, Bool, true, false, List, [], ◌∷◌, ◌++◌, length, map, Option, Some, None, inl, inr, refl, sym, ap, ◌∙◌, subst, arith, codes, append_assoc, append-nil, le-ltb, if◌then◌else◌}
+use Rattle.std.proofs.Common.{◌≡◌, ◌≢◌, ℕ, ◌+◌, ◌-◌, ◌/◌, ◌%◌, ◌<◌, ◌≤◌, ◌==◌, nat_lt, Bool, true, false, List, [], ◌∷◌, ◌++◌, length, map, Option, Some, None, inl, inr, refl, ap, ◌∙◌, subst, arith, codes, append-nil, if◌then◌else◌}
 use Rattle.std.specs.List.{zip}
 use Rattle.std.specs.Char.{IsScalar}
 use Rattle.std.proofs.lemmas.Bool.{cases_lt}
@@ -7,27 +7,14 @@ use Rattle.std.proofs.lemmas.List.{length-append}
 use Rattle.std.proofs.lemmas.Str.{encode_ascii}
 use lib.Utf8.{encode}
 use Rattle.usp_json.specs.declared.value.Json.{Json}
-use Rattle.usp_json.specs.declared.value.Json.TheVariants.{Null, Bool as Boolean, Num, Str, rolls-Null, rolls-Bool, rolls-Num, rolls-Str, rolls-List, rolls-Obj}
-use Rattle.usp_json.specs.declared.value.Json.TheOpen as level
-use Rattle.usp_json.specs.declared.value.Json.TheViews.{roll-Items}
-use Rattle.usp_json.specs.declared.value.Json.TheFolds.{fold-roll-Json, fold-roll-Items, fold-roll-Members}
+use Rattle.usp_json.specs.declared.value.Json.TheVariants.{Null, Bool as Boolean, Num, Str}
 use Rattle.usp_json.specs.declared.value.Members.{Members}
-use Rattle.usp_json.specs.Entries.{members_of, object_of, array_of}
+use Rattle.usp_json.specs.Entries.{object_of, array_of}
 use Rattle.usp_json.specs.Grammar.{escaped, IsUnit, SpellsChar, plain, short, unit, pair, SpellsChars, none, more, SpellsText}
 use Rattle.usp_json.specs.Spells.{Limits, given, word_of, Spells, null, boolean, number, string, array, object, SpellsArray, no_items, items, SpellsItems, last_item, more_items, SpellsPadded, padded, SpellsObject, no_members, members, SpellsMembers, last_member, more_members, SpellsMember, member, IsReading}
-use Rattle.usp_json.specs.Canon.{hex_digit, escape_of, escaped_text, canon_text, behind, commas, member_of, canon, canon_members, canon_step, items_step, members_step}
-use Rattle.usp_json.proofs.CharLemmas.{differs, four, one, two_bytes, three_of, four_of, shape}
-
-escaped_append : (xs ys : List ℕ) → escaped_text (xs ++ ys) ≡ escaped_text xs ++ escaped_text ys
-escaped_append [] ys = refl
-escaped_append (x ∷ xs) ys = ap (λ l. escape_of x ++ l) (escaped_append xs ys) ∙ sym (append_assoc (escape_of x) (escaped_text xs) (escaped_text ys))
-
-own_byte : (b : ℕ) → 32 ≤ b → b ≢ 34 → b ≢ 92 → escape_of b ≡ b ∷ []
-own_byte b l q s =
-    rw (differs b 34 q, differs b 92 s, differs b 8 (λ e. omega arith), differs b 9 (λ e. omega arith), differs b 10 (λ e. omega arith), differs b 12 (λ e. omega arith), differs b 13 (λ e. omega arith), le-ltb b 32 l) refl
-
-high_byte : (b : ℕ) → 128 ≤ b → escape_of b ≡ b ∷ []
-high_byte b l = own_byte b (omega arith) (λ e. omega arith) (λ e. omega arith)
+use Rattle.usp_json.specs.Canon.{hex_digit, escape_of, escaped_text, canon_text, behind, commas, member_of, canon, canon_members}
+use Rattle.usp_json.proofs.CanonLaws.{escaped_append, own_byte, high_byte, canon_null, canon_boolean, canon_number, canon_string, canon_array, canon_of, canon_object}
+use Rattle.usp_json.proofs.CharLemmas.{four, one, two_bytes, three_of, four_of, shape}
 
 -- an escape has at most 6 bytes, and at most 2 where there is a short one
 pick : (t : Bool) (x y : List ℕ) → length x ≤ 6 → length y ≤ 6 → length (if t then x else y) ≤ 6
@@ -79,7 +66,7 @@ past_quote b = if b == 92 then codes "\\\\" else past_backslash b
 past_quote_size : (b : ℕ) → length (past_quote b) ≤ 6
 past_quote_size b = pick (b == 92) (codes "\\\\") (past_backslash b) (within_six 2 (codes "\\\\") refl (omega arith)) (past_backslash_size b)
 
-escape_size : (b : ℕ) → length (escape_of b) ≤ 6
+pub escape_size : (b : ℕ) → length (escape_of b) ≤ 6
 escape_size b = pick (b == 34) (codes "\\\"") (past_quote b) (within_six 2 (codes "\\\"") refl (omega arith)) (past_quote_size b)
 
 record IsShort (c : ℕ) : Type 0 where
@@ -170,7 +157,7 @@ chars_short _ _ (more c bytes front back all text s rest is spelled) =
     let f : length text ≡ length front + length back = rw spelled (length-append front back) in
     omega arith
 
-quoted : (text : List ℕ) → length (34 ∷ (text ++ 34 ∷ [])) ≡ length text + 2
+pub quoted : (text : List ℕ) → length (34 ∷ (text ++ 34 ∷ [])) ≡ length text + 2
 quoted text = let e = length-append text (34 ∷ []) in omega arith
 
 text_short : (bytes text : List ℕ) → SpellsText bytes text → length (canon_text bytes) ≤ length text
@@ -181,7 +168,7 @@ text_short bytes text s =
     omega arith
 
 -- between brackets
-bracketed : (l r : ℕ) (xs : List ℕ) → length (l ∷ (xs ++ r ∷ [])) ≡ length xs + 2
+pub bracketed : (l r : ℕ) (xs : List ℕ) → length (l ∷ (xs ++ r ∷ [])) ≡ length xs + 2
 bracketed l r xs = let e = length-append xs (r ∷ []) in omega arith
 
 -- the texts with commas between them are shorter than with a comma before each
@@ -189,39 +176,14 @@ commas_size : (texts : List (List ℕ)) → length (commas texts) ≤ length (be
 commas_size [] = omega arith
 commas_size (text ∷ texts) = omega arith
 
-behind_size : (text : List ℕ) (texts : List (List ℕ)) → length (behind (text ∷ texts)) ≡ 1 + length text + length (behind texts)
+pub behind_size : (text : List ℕ) (texts : List (List ℕ)) → length (behind (text ∷ texts)) ≡ 1 + length text + length (behind texts)
 behind_size text texts = let e = length-append text (behind texts) in omega arith
 
-member_size : (name text : List ℕ) → length (member_of (name, text)) ≡ length (canon_text name) + 1 + length text
+pub member_size : (name text : List ℕ) → length (member_of (name, text)) ≡ length (canon_text name) + 1 + length text
 member_size name text = let e = length-append (canon_text name) (58 ∷ text) in omega arith
-
-canon_null : canon Null ≡ codes "null"
-canon_null = ap canon (sym rolls-Null) ∙ fold-roll-Json (List ℕ) (List ℕ) (List ℕ) canon_step items_step members_step level.Null
-
-canon_boolean : (b : Bool) → canon (Boolean b) ≡ word_of b
-canon_boolean b = ap canon (sym (rolls-Bool b)) ∙ fold-roll-Json (List ℕ) (List ℕ) (List ℕ) canon_step items_step members_step (level.Bool b)
-
-canon_number : (text : List ℕ) → canon (Num text) ≡ text
-canon_number text = ap canon (sym (rolls-Num text)) ∙ fold-roll-Json (List ℕ) (List ℕ) (List ℕ) canon_step items_step members_step (level.Num text)
-
-canon_string : (bytes : List ℕ) → canon (Str bytes) ≡ canon_text bytes
-canon_string bytes = ap canon (sym (rolls-Str bytes)) ∙ fold-roll-Json (List ℕ) (List ℕ) (List ℕ) canon_step items_step members_step (level.Str bytes)
-
-canon_array : (values : List Json) → canon (array_of values) ≡ 91 ∷ (commas (map canon values) ++ 93 ∷ [])
-canon_array values =
-    let row = roll-Items (record { values = values }) in
-    ap canon (sym (rolls-List row)) ∙ (fold-roll-Json (List ℕ) (List ℕ) (List ℕ) canon_step items_step members_step (level.List row)
-    ∙ fold-roll-Items (List ℕ) (List ℕ) (List ℕ) canon_step items_step members_step (record { values = values }))
 
 abbrev object_text : List (List ℕ) → List Json → List ℕ
 object_text names values = 123 ∷ (commas (map member_of (zip names (map canon values))) ++ 125 ∷ [])
-
-canon_of : (names : List (List ℕ)) (values : List Json) → canon_members (members_of names values) ≡ object_text names values
-canon_of names values = fold-roll-Members (List ℕ) (List ℕ) (List ℕ) canon_step items_step members_step (record { names = names; values = values })
-
-canon_object : (names : List (List ℕ)) (values : List Json) → canon (object_of names values) ≡ object_text names values
-canon_object names values =
-    ap canon (sym (rolls-Obj (members_of names values))) ∙ (fold-roll-Json (List ℕ) (List ℕ) (List ℕ) canon_step items_step members_step (level.Obj (members_of names values)) ∙ canon_of names values)
 
 by_canon : (v w : Json) (spelled text : List ℕ) → v ≡ w → canon w ≡ spelled → length spelled ≤ length text → length (canon v) ≤ length text
 by_canon v w spelled text is e l = rw is (rw e l)

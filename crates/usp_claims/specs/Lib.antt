@@ -1,3 +1,4 @@
+pub mod Changes
 pub mod Faults
 pub mod Table
 pub mod Values

@@ -1,12 +1,13 @@
 -- The claims and what each may be (RFC 7519 section 4.1, RFC 9246 section 2.1).
-use Rattle.std.specs.Prelude.{◌≡◌, ℕ, Bool, true, false, not, ◌&&◌, ◌||◌, List, [], ◌∷◌, codes, Option, Some, None}
-use Rattle.std.specs.List.{All, find}
+use Rattle.std.specs.Prelude.{◌≡◌, ℕ, Bool, true, ◌&&◌, ◌||◌, List, [], ◌∷◌, codes, Option}
+use Rattle.std.specs.List.{All}
 use Rattle.std.specs.Option.{is_some, option_map_or, option_and_then}
 use Rattle.usp_base.specs.Numbers.{number_of}
 use Rattle.usp_json.specs.Entries.{entries, value_of}
 use Rattle.usp_json.specs.declared.value.Json.{Json}
 use Rattle.usp_json.specs.declared.value.Members.{Members}
-use Rattle.usp_claims.specs.Values.{text_in, is_text, number_in, is_texts, is_this, lists}
+use Rattle.usp_json.specs.Scalars.{text_in, number_in}
+use Rattle.usp_claims.specs.Values.{is_text, is_texts, is_this, lists}
 use Rattle.usp_claims.specs.declared.table.ClaimName.{ClaimName}
 use Rattle.usp_claims.specs.declared.table.ClaimName.TheVariants.{Iss, Sub, Aud, Exp, Nbf, Iat, Jti, Version, Crit, Ip, Uc, Ets, Stt, Std}
 use Rattle.usp_claims.specs.declared.table.ClaimKind.{ClaimKind}

@@ -1,5 +1,5 @@
 -- What a value of JSON is (RFC 8259 section 3).
-use Rattle.std.specs.Prelude.{ℕ, Bool, true, false, List, Option, Some, None}
+use Rattle.std.specs.Prelude.{ℕ, Bool, false, List}
 use Rattle.std.specs.List.{list_all, list_any}
 use Rattle.std.specs.Option.{is_some, option_map_or}
 use Rattle.std.specs.Str.{bytes_eq}
@@ -8,25 +8,11 @@ use Rattle.usp_json.specs.declared.value.Json.TheOpen.{Json-F}
 use Rattle.usp_json.specs.declared.value.Json.TheOpen as level
 use Rattle.usp_json.specs.declared.value.Items.{Items}
 use Rattle.usp_json.specs.declared.value.Members.{Members}
+use Rattle.usp_json.specs.Scalars.{text_in}
 
--- the text that a value is
-abbrev pub level_text : Json-F Json Items Members → Option (List ℕ)
-level_text (level.Str text) = Some text
-level_text _ = None
-
-abbrev pub text_in : Json → Option (List ℕ)
-text_in value = level_text (out-Json value)
-
+-- the value is a text
 abbrev pub is_text : Json → Bool
 is_text value = is_some (text_in value)
-
--- the spelling of the number that a value is
-abbrev pub level_number : Json-F Json Items Members → Option (List ℕ)
-level_number (level.Num spelled) = Some spelled
-level_number _ = None
-
-abbrev pub number_in : Json → Option (List ℕ)
-number_in value = level_number (out-Json value)
 
 -- the value is a list of texts
 abbrev pub level_is_texts : Json-F Json Items Members → Bool

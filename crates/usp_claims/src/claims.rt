@@ -1,15 +1,18 @@
 // Claim sets.
-ghost use Rattle.std.specs.Prelude.{◌≡◌, ◌≤◌, ◌||◌, true, not, codes, length, Some, IfOk, IfErr};
+ghost use Rattle.std.specs.Prelude.{◌≡◌, ◌+◌, ◌≤◌, ◌||◌, true, not, codes, length, Some, IfOk, IfErr};
 ghost use Rattle.std.specs.List.{find};
 ghost use Rattle.std.specs.Option.{is_some, option_copied, option_map};
-ghost use Rattle.usp_json.specs.Canon.{canon_members};
+ghost use Rattle.usp_json.specs.Canon.{canon, canon_members};
+ghost use Rattle.usp_json.specs.Kept.{KeepsLimits};
 ghost use Rattle.usp_json.specs.Spells.{IsReading};
+ghost use Rattle.usp_claims.specs.Changes.{AreNamed, with_claim};
 ghost use Rattle.usp_claims.specs.Table.{IsClaimSet, claim, fits, is_audience, name_of, number_claim, period_claim, row, text_claim};
 ghost use Rattle.usp_claims.specs.declared.table.ClaimKind.TheVariants.{Number, Period, Text};
 ghost use Rattle.usp_claims.specs.Faults.{RefusesClaims, failure, fault_in, first_failing, json_fault};
 
+use crate::changes::{change, length_with};
 use crate::table::ROWS;
-use crate::values::{has_kind, in_range, is_audience, period_in, text_in, whole_in};
+use crate::values::{has_kind, in_range, is_audience, period_in, whole_in};
 use crate::{ClaimFault, ClaimName, NoMemory, Row};
 use std::alloc::Global;
 use std::marker::Model;
@@ -81,7 +84,7 @@ fn text_claim(members: &Members, name: ClaimName) -> Option<&[u8]>
     ensures value { option_copied result ≡ text_claim (name_of name) members.now }
     ensures there { is_some result ≡ is_some (claim (name_of name) members.now) }
 {
-    text_in(members.find(name.name().as_bytes())?)
+    members.find(name.name().as_bytes())?.text()
 }
 
 // A claim that is a number.
@@ -116,6 +119,7 @@ impl Model for Claims {
     ghost use Rattle.usp_json.specs.contracts.value.Members as e;
     ghost use Rattle.usp_json.specs.declared.value.Members.{Members};
     ghost use Rattle.usp_claims.specs.Table.{IsClaimSet};
+    ghost use Rattle.usp_claims.specs.Changes.{AreNamed};
 
     ghost Value = { Members };
 
@@ -123,7 +127,7 @@ impl Model for Claims {
 
     ghost view = { λ c. c.members };
 
-    ghost invariant = { λ c. IsClaimSet c.members × (c.text_len ≡ length (canon_members c.members)) × (c.text_len ≤ 6000) };
+    ghost invariant = { λ c. IsClaimSet c.members × (c.text_len ≡ length (canon_members c.members)) × (c.text_len ≤ 6000) × AreNamed c.members };
 }
 
 // The fault of a payload that is no JSON.
@@ -148,11 +152,12 @@ fn check(members: &Members) -> Result<(), ClaimFault>
 }
 
 /// Reads the claim set that a payload spells (RFC 7519 section 7.2, RFC 9246 section 2.1).
-#[tactic(auto, using(crate::proofs::Rows::refuses, crate::proofs::Shorter::no_longer))]
+#[tactic(auto, using(crate::proofs::Rows::refuses, crate::proofs::Shorter::no_longer, crate::proofs::Named::keeps, crate::proofs::Named::named))]
 pub fn read_claims(alloc: Global, payload: &[u8]) -> Result<Claims, ClaimFault>
     ensures short { IfOk result (λ claims. length payload.now ≤ 4096) }
     ensures read { IfOk result (λ claims. IsReading payload.now claims) }
     ensures set { IfOk result (λ claims. IsClaimSet claims) }
+    ensures keeps { IfOk result (λ claims. KeepsLimits claims) }
     ensures no_longer { IfOk result (λ claims. length (canon_members claims) ≤ length payload.now) }
     ensures refused { IfErr result (λ fault. RefusesClaims fault payload.now) }
 {
@@ -171,7 +176,8 @@ pub fn read_claims(alloc: Global, payload: &[u8]) -> Result<Claims, ClaimFault>
 /// The canonical text of the claims: no white space, numbers as they were spelled, and in texts only
 /// what must be escaped (RFC 8259 section 7).
 pub fn text(alloc: Global, claims: &Claims) -> Result<Vec<u8>, NoMemory>
-    ensures { IfOk result (λ text. text.items ≡ canon_members claims.now) }
+    ensures canonical { IfOk result (λ text. text.items ≡ canon_members claims.now) }
+    ensures reads_back { IfOk result (λ text. KeepsLimits claims.now → IsReading text.items claims.now) }
 {
     Ok(write_members(alloc, &claims.members)?)
 }
@@ -179,9 +185,49 @@ pub fn text(alloc: Global, claims: &Claims) -> Result<Vec<u8>, NoMemory>
 impl Claims {
     /// The claims as members, in their order.
     pub fn members(&self) -> &Members
-        ensures { result.now ≡ self.now }
+        ensures same { result.now ≡ self.now }
+        ensures named { AreNamed self.now }
     {
         &self.members
+    }
+
+    /// These claims with that value for one of them: a claim that is there keeps its place, and another goes last.
+    /// Where there is no memory, the claims come back as they were, and the value is dropped.
+    #[tactic(auto, using(crate::proofs::Lengths::grows))]
+    pub fn with(
+        self,
+        alloc: Global,
+        name: ClaimName,
+        value: Json,
+    ) -> Result<Claims, (Claims, NoMemory)>
+        requires set { IsClaimSet (with_claim name value self) }
+        requires short { length (canon_members (with_claim name value self)) ≤ 6000 }
+        ensures changed { IfOk result (λ claims. claims ≡ with_claim name value self) }
+        ensures growth { IfOk result (λ claims. length (canon_members claims) ≤ length (canon_members self) + length (name_of name) + 4 + length (canon value)) }
+        ensures unchanged { IfErr result (λ refused. refused.0 ≡ self) }
+    {
+        let Claims { members, text_len } = self;
+        let Ok(longer) = length_with(alloc, &members, text_len, name, &value) else {
+            return Err((Claims { members, text_len }, NoMemory));
+        };
+        let mut members = members;
+        match change(alloc, &mut members, name, value) {
+            Ok(()) => Ok(Claims {
+                members,
+                text_len: longer,
+            }),
+            Err(_) => Err((Claims { members, text_len }, NoMemory)),
+        }
+    }
+
+    /// Other claims that are the same.
+    pub fn copy(&self, alloc: Global) -> Result<Claims, NoMemory>
+        ensures { IfOk result (λ copied. copied ≡ self.now) }
+    {
+        Ok(Claims {
+            members: self.members.copy(alloc)?,
+            text_len: self.text_len,
+        })
     }
 
     /// The value of the claim of that name.

@@ -1,6 +1,7 @@
 //! The claim sets of signed URIs (RFC 9246 section 2.1).
 #![tactic(auto)]
 
+mod changes;
 mod claims;
 mod fault;
 mod laws;
@@ -11,5 +12,5 @@ mod values;
 
 pub use claims::{Claims, read_claims, text};
 pub use fault::{ClaimFault, NoMemory};
-pub use laws::refused_are_no_claim_sets;
+pub use laws::{bounds_the_values, changes_one_claim, refused_are_no_claim_sets};
 pub use table::{ClaimKind, ClaimName, ROWS, Row};

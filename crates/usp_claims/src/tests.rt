@@ -1,8 +1,12 @@
 // Claim sets that are read, and payloads that have none.
-use crate::{ClaimFault, ClaimName, read_claims, text};
+ghost use Rattle.std.specs.Prelude.{◌≤◌, length};
+ghost use Rattle.usp_json.specs.Canon.{canon_members};
+ghost use Rattle.usp_claims.specs.Table.{IsClaimSet};
+
+use crate::{ClaimFault, ClaimName, Claims, NoMemory, read_claims, text};
 use std::alloc::Global;
 use std::test::Fail;
-use usp_json::{Json, JsonFault};
+use usp_json::{Json, JsonFault, NumText, Text};
 
 const ALL: &[u8] =
     b"{\"iss\":\"cp\",\"sub\":[],\"aud\":[\"a\",\"b\"],\"exp\":9007199254740991,\"nbf\":4,\"iat\":3,\"jti\":\"n\",\"cdniv\":1,\"cdnicrit\":\"x\",\"cdniuc\":\"hash:x\",\"cdniets\":4503599627370496,\"cdnistt\":1,\"cdnistd\":0,\"x\":null}";
@@ -155,5 +159,87 @@ fn a_payload_has_at_most_4096_bytes(rt: HostRuntime) -> Result<(), Fail> {
     assert_eq!(rt; fault_of(alloc, &payload), None);
     payload.push(b' ')?;
     assert_eq!(rt; fault_of(alloc, &payload), Some(ClaimFault::TooLong));
+    Ok(())
+}
+
+// The claims with that second as `exp`.
+#[tactic(auto, using(crate::proofs::Samples::expiry_set, crate::proofs::Samples::expiry_short))]
+fn expiring(alloc: Global, claims: Claims, second: u32) -> Result<Claims, NoMemory>
+    requires set { IsClaimSet claims }
+    requires short { length (canon_members claims) ≤ 4096 }
+{
+    let value = Json::Num(NumText::whole(alloc, u64::from(second))?);
+    match claims.with(alloc, ClaimName::Exp, value) {
+        Ok(changed) => Ok(changed),
+        Err((_, fault)) => Err(fault),
+    }
+}
+
+// The claims with that text as `iss`.
+#[tactic(auto, using(crate::proofs::Samples::issuer_set, crate::proofs::Samples::issuer_short))]
+fn issued(alloc: Global, claims: Claims, issuer: &str) -> Result<Claims, NoMemory>
+    requires set { IsClaimSet claims }
+    requires short { length (canon_members claims) ≤ 4096 }
+    requires few { length issuer.now ≤ 100 }
+{
+    let value = Json::Str(Text::of(alloc, issuer)?);
+    match claims.with(alloc, ClaimName::Iss, value) {
+        Ok(changed) => Ok(changed),
+        Err((_, fault)) => Err(fault),
+    }
+}
+
+// Whether the claims and a copy of them have that text.
+fn spell(alloc: Global, claims: &Claims, expected: &[u8]) -> Result<bool, NoMemory> {
+    let copied = claims.copy(alloc)?;
+    let whole = text(alloc, claims)?;
+    let again = text(alloc, &copied)?;
+    Ok(
+        whole.as_slice() == expected
+            && again.as_slice() == expected
+            && claims.text_len() == expected.len()
+            && copied.text_len() == expected.len(),
+    )
+}
+
+#[test]
+fn a_present_claim_keeps_its_place_and_an_absent_one_goes_last(
+    rt: HostRuntime,
+) -> Result<(), Fail> {
+    let alloc = rt.alloc();
+    let numbers: [(&[u8], u32, &[u8]); 3] = [
+        (
+            b"{\"cdniuc\":\"regex:a\",\"cdnistt\":1,\"cdniets\":30}",
+            80,
+            b"{\"cdniuc\":\"regex:a\",\"cdnistt\":1,\"cdniets\":30,\"exp\":80}",
+        ),
+        (
+            b"{\"iss\":\"cp\",\"exp\":100,\"cdniuc\":\"hash:x\"}",
+            4294967295,
+            b"{\"iss\":\"cp\",\"exp\":4294967295,\"cdniuc\":\"hash:x\"}",
+        ),
+        (
+            b"{ \"cdniuc\":\"\\u0041\", \"x\":[1, {\"exp\":2}], \"exp\":1 }",
+            0,
+            b"{\"cdniuc\":\"A\",\"x\":[1,{\"exp\":2}],\"exp\":0}",
+        ),
+    ];
+    for (payload, second, expected) in numbers {
+        let claims = expiring(alloc, read_claims(alloc, payload)?, second)?;
+        assert!(rt; spell(alloc, &claims, expected)?);
+        assert_eq!(rt; claims.exp(), Some(u64::from(second)));
+    }
+    let claims = issued(
+        alloc,
+        read_claims(alloc, b"{\"iss\":\"cp\",\"cdniuc\":\"\"}")?,
+        "cdn-\"a\"",
+    )?;
+    assert!(rt;
+        spell(
+            alloc,
+            &claims,
+            b"{\"iss\":\"cdn-\\\"a\\\"\",\"cdniuc\":\"\"}"
+        )?
+    );
     Ok(())
 }

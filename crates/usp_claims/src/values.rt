@@ -1,10 +1,9 @@
 // What a value of JSON is.
 ghost use Rattle.std.specs.Prelude.{◌≡◌};
 ghost use Rattle.std.specs.List.{list_all, list_any};
-ghost use Rattle.std.specs.Option.{option_copied};
 ghost use Rattle.usp_base.specs.Numbers.{number_of};
 ghost use Rattle.usp_claims.specs.Table.{has_kind, in_range, is_audience, whole_in};
-ghost use Rattle.usp_claims.specs.Values.{text_in, is_text, number_in, is_texts, is_this, lists};
+ghost use Rattle.usp_claims.specs.Values.{is_text, is_texts, is_this, lists};
 
 use crate::ClaimKind;
 use usp_base::read_number;
@@ -14,44 +13,24 @@ pub(crate) const LAST_NUMBER: u64 = 9_007_199_254_740_991;
 
 const LONGEST_PERIOD: u64 = 4_503_599_627_370_496;
 
-// The text that a value is.
-pub(crate) fn text_in(value: &Json) -> Option<&[u8]>
-    ensures { option_copied result ≡ text_in value.now }
-{
-    match value {
-        Json::Str(text) => Some(text.text().as_bytes()),
-        _ => None,
-    }
-}
-
 fn is_text(value: &Json) -> bool
     ensures { result ≡ is_text value.now }
 {
-    text_in(value).is_some()
-}
-
-// The spelling of the number that a value is.
-fn number_in(value: &Json) -> Option<&[u8]>
-    ensures { option_copied result ≡ number_in value.now }
-{
-    match value {
-        Json::Num(number) => Some(number.text()),
-        _ => None,
-    }
+    value.text().is_some()
 }
 
 // The whole number, spelled with digits alone and at most 2^53 - 1, that a value is.
 pub(crate) fn whole_in(value: &Json) -> Option<u64>
     ensures { result ≡ whole_in 9007199254740991 value.now }
 {
-    read_number(number_in(value)?, LAST_NUMBER)
+    read_number(value.number()?, LAST_NUMBER)
 }
 
 // The same, at most 2^52.
 pub(crate) fn period_in(value: &Json) -> Option<u64>
     ensures { result ≡ whole_in 4503599627370496 value.now }
 {
-    read_number(number_in(value)?, LONGEST_PERIOD)
+    read_number(value.number()?, LONGEST_PERIOD)
 }
 
 fn are_texts(items: &Items) -> bool
@@ -82,7 +61,7 @@ pub(crate) fn has_kind(kind: ClaimKind, value: &Json) -> bool
         ClaimKind::Any => true,
         ClaimKind::Text => is_text(value),
         ClaimKind::TextOrTexts => is_text(value) || is_texts(value),
-        ClaimKind::Number | ClaimKind::Period => number_in(value).is_some(),
+        ClaimKind::Number | ClaimKind::Period => value.number().is_some(),
     }
 }
 
@@ -100,7 +79,7 @@ pub(crate) fn in_range(kind: ClaimKind, value: &Json) -> bool
 fn is_this(value: &Json, text: &[u8]) -> bool
     ensures { result ≡ is_this text.now value.now }
 {
-    match text_in(value) {
+    match value.text() {
         None => false,
         Some(other) => other == text,
     }

@@ -20,15 +20,15 @@ use Rattle.usp_json.specs.Canon.{hex_digit, escape_of, escaped_text, canon_text,
 use Rattle.usp_json.specs.Kept.{Keeps, null, boolean, number, string, array, object, KeepEach, none, more, KeepMembers, members, AreUtf8, no_names, more_names, KeepsLimits}
 use Rattle.usp_json.proofs.CharLemmas.{between_true, between_high, differs, one, two_bytes, three_of, four_of, shape}
 
-escaped_append : (xs ys : List ℕ) → escaped_text (xs ++ ys) ≡ escaped_text xs ++ escaped_text ys
+pub escaped_append : (xs ys : List ℕ) → escaped_text (xs ++ ys) ≡ escaped_text xs ++ escaped_text ys
 escaped_append [] ys = refl
 escaped_append (x ∷ xs) ys = ap (λ l. escape_of x ++ l) (escaped_append xs ys) ∙ sym (append_assoc (escape_of x) (escaped_text xs) (escaped_text ys))
 
-own_byte : (b : ℕ) → 32 ≤ b → b ≢ 34 → b ≢ 92 → escape_of b ≡ b ∷ []
+pub own_byte : (b : ℕ) → 32 ≤ b → b ≢ 34 → b ≢ 92 → escape_of b ≡ b ∷ []
 own_byte b l q s =
     rw (differs b 34 q, differs b 92 s, differs b 8 (λ e. omega arith), differs b 9 (λ e. omega arith), differs b 10 (λ e. omega arith), differs b 12 (λ e. omega arith), differs b 13 (λ e. omega arith), le-ltb b 32 l) refl
 
-high_byte : (b : ℕ) → 128 ≤ b → escape_of b ≡ b ∷ []
+pub high_byte : (b : ℕ) → 128 ≤ b → escape_of b ≡ b ∷ []
 high_byte b l = own_byte b (omega arith) (λ e. omega arith) (λ e. omega arith)
 
 hex_digit_value : (d : ℕ) → d < 16 → hex_value (hex_digit d) ≡ Some d
@@ -168,28 +168,28 @@ object_canon limits n _ _ same (more_names l ls x xs) apart few (also w ws t ts)
     some_members n (l ∷ ls) (w ∷ ws) (commas (map member_of (zip (l ∷ ls) (map canon (w ∷ ws))))) (123 ∷ (commas (map member_of (zip (l ∷ ls) (map canon (w ∷ ws)))) ++ 125 ∷ []))
     (members_canon limits n l x ls xs w t ws ts (omega arith)) apart few refl
 
-canon_null : canon Null ≡ codes "null"
+pub canon_null : canon Null ≡ codes "null"
 canon_null = ap canon (sym rolls-Null) ∙ fold-roll-Json (List ℕ) (List ℕ) (List ℕ) canon_step items_step members_step level.Null
 
-canon_boolean : (b : Bool) → canon (Boolean b) ≡ word_of b
+pub canon_boolean : (b : Bool) → canon (Boolean b) ≡ word_of b
 canon_boolean b = ap canon (sym (rolls-Bool b)) ∙ fold-roll-Json (List ℕ) (List ℕ) (List ℕ) canon_step items_step members_step (level.Bool b)
 
-canon_number : (text : List ℕ) → canon (Num text) ≡ text
+pub canon_number : (text : List ℕ) → canon (Num text) ≡ text
 canon_number text = ap canon (sym (rolls-Num text)) ∙ fold-roll-Json (List ℕ) (List ℕ) (List ℕ) canon_step items_step members_step (level.Num text)
 
-canon_string : (bytes : List ℕ) → canon (Str bytes) ≡ canon_text bytes
+pub canon_string : (bytes : List ℕ) → canon (Str bytes) ≡ canon_text bytes
 canon_string bytes = ap canon (sym (rolls-Str bytes)) ∙ fold-roll-Json (List ℕ) (List ℕ) (List ℕ) canon_step items_step members_step (level.Str bytes)
 
-canon_array : (values : List Json) → canon (array_of values) ≡ 91 ∷ (commas (map canon values) ++ 93 ∷ [])
+pub canon_array : (values : List Json) → canon (array_of values) ≡ 91 ∷ (commas (map canon values) ++ 93 ∷ [])
 canon_array values =
     let items = roll-Items (record { values = values }) in
     ap canon (sym (rolls-List items)) ∙ (fold-roll-Json (List ℕ) (List ℕ) (List ℕ) canon_step items_step members_step (level.List items)
     ∙ fold-roll-Items (List ℕ) (List ℕ) (List ℕ) canon_step items_step members_step (record { values = values }))
 
-canon_of : (names : List (List ℕ)) (values : List Json) → canon_members (members_of names values) ≡ 123 ∷ (commas (map member_of (zip names (map canon values))) ++ 125 ∷ [])
+pub canon_of : (names : List (List ℕ)) (values : List Json) → canon_members (members_of names values) ≡ 123 ∷ (commas (map member_of (zip names (map canon values))) ++ 125 ∷ [])
 canon_of names values = fold-roll-Members (List ℕ) (List ℕ) (List ℕ) canon_step items_step members_step (record { names = names; values = values })
 
-canon_object : (names : List (List ℕ)) (values : List Json) → canon (object_of names values) ≡ 123 ∷ (commas (map member_of (zip names (map canon values))) ++ 125 ∷ [])
+pub canon_object : (names : List (List ℕ)) (values : List Json) → canon (object_of names values) ≡ 123 ∷ (commas (map member_of (zip names (map canon values))) ++ 125 ∷ [])
 canon_object names values =
     ap canon (sym (rolls-Obj (members_of names values))) ∙ (fold-roll-Json (List ℕ) (List ℕ) (List ℕ) canon_step items_step members_step (level.Obj (members_of names values)) ∙ canon_of names values)
 

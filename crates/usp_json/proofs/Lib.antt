@@ -2,7 +2,9 @@ pub mod CanonLaws
 pub mod CharLemmas
 pub mod FaultLaws
 pub mod FrameLaws
+pub mod GrowLaws
 pub mod HoldLaws
+pub mod KeepLaws
 pub mod LiveLaws
 pub mod Numbers
 pub mod Pairs

@@ -1,6 +1,6 @@
 -- The members of an object as a list of pairs, each a name and its value.
 use Rattle.std.specs.Prelude.{◌≡◌, ℕ, List, [], ◌∷◌, length, Option, Some, None, if◌then◌else◌}
-use Rattle.std.specs.List.{zip}
+use Rattle.std.specs.List.{position, zip}
 use Rattle.std.specs.Str.{bytes_eq}
 use Rattle.usp_json.specs.declared.value.Json.{Json}
 use Rattle.usp_json.specs.declared.value.Json.TheVariants.{List as Array, Obj}
@@ -18,6 +18,10 @@ IsPaired members = length members.names ≡ length members.values
 abbrev pub value_of : List ℕ → List (List ℕ × Json) → Option Json
 value_of name [] = None
 value_of name (entry ∷ more) = if bytes_eq entry.0 name then Some entry.1 else value_of name more
+
+-- the place of the first name that is that one
+abbrev pub place_of : List ℕ → List (List ℕ) → Option ℕ
+place_of name names = position (λ other. bytes_eq other name) names
 
 -- an object of those names and values, and the values that they and an array stand for
 abbrev pub members_of : List (List ℕ) → List Json → Members

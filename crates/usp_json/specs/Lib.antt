@@ -1,4 +1,5 @@
 pub mod Entries
+pub mod Scalars
 pub mod Grammar
 pub mod Number
 pub mod Spells

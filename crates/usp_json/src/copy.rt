@@ -23,17 +23,25 @@ impl Json {
                 }
                 Ok(Json::List(Items { values }))
             }
-            Json::Obj(members) => {
-                let mut names = Row::new(alloc);
-                'names: for name in members.names.as_slice() {
-                    names.push(Text::of(alloc, name.text())?)?;
-                }
-                let mut values = Row::new(alloc);
-                'members: for value in members.values.as_slice() {
-                    values.push(value.copy(alloc)?)?;
-                }
-                Ok(Json::Obj(Members { names, values }))
-            }
+            Json::Obj(members) => Ok(Json::Obj(members.copy(alloc)?)),
         }
+    }
+}
+
+impl Members {
+    /// Other members of the same tree.
+    #[cycle(copies)]
+    pub fn copy(&self, alloc: Global) -> Result<Members, NoMemory>
+        ensures { IfOk result (λ copied. copied ≡ self.now) }
+    {
+        let mut names = Row::new(alloc);
+        'names: for name in self.names.as_slice() {
+            names.push(Text::of(alloc, name.text())?)?;
+        }
+        let mut values = Row::new(alloc);
+        'members: for value in self.values.as_slice() {
+            values.push(value.copy(alloc)?)?;
+        }
+        Ok(Members { names, values })
     }
 }

@@ -19,9 +19,10 @@ mod value;
 mod write;
 
 pub use fault::JsonFault;
+pub use laws::{changes_keep_the_limits, reads_keep_the_limits, reads_once};
 pub use memory::NoMemory;
 pub use number::NumText;
 pub use read::read_members;
 pub use text::Text;
 pub use value::{Items, Json, Members};
-pub use write::write_members;
+pub use write::{write_json, write_members};

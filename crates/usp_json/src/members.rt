@@ -1,8 +1,9 @@
 // The members of an object.
 ghost use Rattle.std.specs.Prelude.{◌≡◌, ◌<◌, [], ◌∷◌, ◌++◌, length, slice_get, slice_set, Some, OnOk, OnErr};
 ghost use Rattle.std.specs.Option.{option_copied};
-ghost use Rattle.usp_json.specs.Entries.{entries, value_of, IsPaired};
+ghost use Rattle.usp_json.specs.Entries.{entries, place_of, value_of, IsPaired};
 
+use crate::steps::is_name;
 use crate::{Json, Members, NoMemory, Text};
 use sqlite_items::Items as Row;
 use std::alloc::Global;
@@ -75,6 +76,16 @@ impl Members {
         ensures values { self.new.values ≡ slice_set self.old.values place value }
     {
         self.values.set(place, value);
+    }
+
+    /// The place of the first member of that name, counted from 0.
+    pub fn place(&self, name: &[u8]) -> Option<usize>
+        ensures { result ≡ place_of name.now self.now.names }
+    {
+        self.names
+            .as_slice()
+            .iter()
+            .position(|stored| is_name(stored, name))
     }
 
     /// The value of the first member of that name.

@@ -221,7 +221,7 @@ fn comma_step(frames: &mut Vec<Frame>, b: u8) -> Result<Option<Expect>, AllocErr
     Ok(None)
 }
 
-fn is_name(other: &Text, name: &[u8]) -> bool
+pub(crate) fn is_name(other: &Text, name: &[u8]) -> bool
     ensures { result ≡ bytes_eq other.now name.now }
 {
     other.text().as_bytes() == name

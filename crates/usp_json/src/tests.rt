@@ -1,4 +1,6 @@
-use crate::{Items, Json, JsonFault, Members, NumText, Text, read_members, write_members};
+use crate::{
+    Items, Json, JsonFault, Members, NumText, Text, read_members, write_json, write_members,
+};
 use std::alloc::{AllocError, Global};
 use std::test::Fail;
 
@@ -218,6 +220,48 @@ fn writes_what_was_pushed_and_set(rt: HostRuntime) -> Result<(), Fail> {
             text.as_slice() == b"{\"n\":18,\"t\":\"x\",\"l\":[true]}".as_slice()
         ),
         Err(_) => assert!(rt; false),
+    }
+    Ok(())
+}
+
+// Whether a value is a text or a number of these bytes.
+fn spells(found: Option<&[u8]>, expected: &[u8]) -> bool {
+    match found {
+        None => false,
+        Some(bytes) => bytes == expected,
+    }
+}
+
+#[test]
+fn finds_and_copies_each_member(rt: HostRuntime) -> Result<(), Fail> {
+    let alloc = rt.alloc();
+    let Ok(members) = built(alloc) else {
+        assert!(rt; false);
+        return Ok(());
+    };
+    let Ok(copied) = members.copy(alloc) else {
+        assert!(rt; false);
+        return Ok(());
+    };
+    let table: [(&[u8], usize, &[u8]); 3] = [
+        (b"n", 0, b"18"),
+        (b"t", 1, b"\"x\""),
+        (b"l", 2, b"[true]"),
+    ];
+    for row in table.iter() {
+        assert!(rt; copied.place(row.0) == Some(row.1));
+        match copied.find(row.0) {
+            None => assert!(rt; false),
+            Some(value) => match write_json(alloc, value) {
+                Err(_) => assert!(rt; false),
+                Ok(text) => assert!(rt; text.as_slice() == row.2),
+            },
+        }
+    }
+    assert!(rt; copied.place(b"x").is_none());
+    if let (Some(number), Some(text)) = (copied.find(b"n"), copied.find(b"t")) {
+        assert!(rt; spells(number.number(), b"18") && number.text().is_none());
+        assert!(rt; spells(text.text(), b"x") && text.number().is_none());
     }
     Ok(())
 }

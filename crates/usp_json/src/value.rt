@@ -1,6 +1,9 @@
 // Values of JSON, their lists and their members.
-ghost use Rattle.std.specs.Prelude.{◌≡◌, ◌<◌, [], ◌∷◌, ◌++◌, length, slice_get, slice_set, Some, OnOk, OnErr};
-ghost use Rattle.usp_json.specs.Entries.{entries, IsPaired};
+ghost use Rattle.std.specs.Prelude.{◌≡◌, ◌<◌, [], ◌∷◌, ◌++◌, length, slice_get, Some, IfSome, OnOk, OnErr};
+ghost use Rattle.std.specs.Option.{option_copied};
+ghost use Rattle.std.specs.Str.{IsUtf8};
+ghost use Rattle.usp_json.specs.Grammar.{IsNumber};
+ghost use Rattle.usp_json.specs.Scalars.{number_in, text_in};
 
 use crate::{NoMemory, NumText, Text};
 use sqlite_items::Items as Row;
@@ -31,6 +34,30 @@ pub struct Items {
 pub struct Members {
     pub(crate) names: Row<Text>,
     pub(crate) values: Row<Json>,
+}
+
+impl Json {
+    /// The text that this value is.
+    pub fn text(&self) -> Option<&[u8]>
+        ensures value { option_copied result ≡ text_in self.now }
+        ensures utf8 { IfSome result (λ text. IsUtf8 text.now) }
+    {
+        match self {
+            Json::Str(text) => Some(text.text().as_bytes()),
+            _ => None,
+        }
+    }
+
+    /// The spelling of the number that this value is.
+    pub fn number(&self) -> Option<&[u8]>
+        ensures value { option_copied result ≡ number_in self.now }
+        ensures number { IfSome result (λ spelled. IsNumber spelled.now) }
+    {
+        match self {
+            Json::Num(number) => Some(number.text()),
+            _ => None,
+        }
+    }
 }
 
 impl Items {

@@ -138,6 +138,15 @@ fn write_pairs(out: &mut Vec<u8>, names: &[Text], values: &[Json]) -> Result<(),
     Ok(())
 }
 
+/// The canonical text of a value, as in `write_members`.
+pub fn write_json(alloc: Global, value: &Json) -> Result<Vec<u8>, NoMemory>
+    ensures { IfOk result (λ text. text.items ≡ canon value.now) }
+{
+    let mut out = Vec::new(alloc);
+    write_value(&mut out, value)?;
+    Ok(out)
+}
+
 /// The canonical text of an object: no white space outside texts, numbers as they were spelled, and in texts only what
 /// must be escaped (RFC 8259, section 7).
 #[tactic(auto, using(crate::proofs::CanonLaws::reads_back))]

@@ -6,24 +6,14 @@ use Rattle.base64.specs.GeneralPurpose.{IsBytes}
 use Rattle.usp_json.specs.Entries.{entries, value_of}
 use Rattle.usp_json.specs.Faults.{Refuses}
 use Rattle.usp_json.specs.Spells.{IsReading}
-use Rattle.usp_json.specs.declared.value.Json.{Json, out-Json}
-use Rattle.usp_json.specs.declared.value.Json.TheOpen.{Json-F}
-use Rattle.usp_json.specs.declared.value.Json.TheOpen as level
-use Rattle.usp_json.specs.declared.value.Items.{Items}
+use Rattle.usp_json.specs.Scalars.{text_in}
+use Rattle.usp_json.specs.declared.value.Json.{Json}
 use Rattle.usp_json.specs.declared.value.Members.{Members}
 use Rattle.usp_json.specs.declared.fault.JsonFault.{JsonFault}
 use Rattle.usp_json.specs.declared.fault.JsonFault.TheVariants.{NoMemory as NoJsonMemory}
 use Rattle.usp_jws.specs.Base64url.{b64u}
 use Rattle.usp_jws.specs.declared.header.HeaderFault.{HeaderFault}
 use Rattle.usp_jws.specs.declared.header.HeaderFault.TheVariants.{Json as NoJson, NoAlg, OtherAlg, Crit, Zip, Enc, BadKid, NoMemory}
-
--- the text that a value is
-abbrev pub level_text : Json-F Json Items Members → Option (List ℕ)
-level_text (level.Str text) = Some text
-level_text _ = None
-
-abbrev pub text_in : Json → Option (List ℕ)
-text_in value = level_text (out-Json value)
 
 -- the value of a parameter, and whether it is there
 abbrev pub parameter : List ℕ → Members → Option Json

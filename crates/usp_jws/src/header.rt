@@ -3,7 +3,8 @@ ghost use Rattle.std.specs.Prelude.{◌≡◌, IfOk, IfErr};
 ghost use Rattle.std.specs.Option.{option_and_then, option_copied};
 ghost use Rattle.base64.specs.GeneralPurpose.{IsBytes};
 ghost use Rattle.usp_jws.specs.Base64url.{IsB64u, b64u};
-ghost use Rattle.usp_jws.specs.Headers.{IsHeader, RefusesHeader, SpellsHeader, has_bad_kid, has_parameter, header_fault, is_hs256, json_fault, kid_of, parameter, text_in};
+ghost use Rattle.usp_jws.specs.Headers.{IsHeader, RefusesHeader, SpellsHeader, has_bad_kid, has_parameter, header_fault, is_hs256, json_fault, kid_of, parameter};
+ghost use Rattle.usp_json.specs.Scalars.{text_in};
 
 use crate::{NoMemory, Parts};
 use base64::DecodeAllocError;
@@ -39,16 +40,6 @@ pub enum HeaderFault {
     NoMemory,
 }
 
-// The text that a value is.
-fn text_in(value: &Json) -> Option<&[u8]>
-    ensures { option_copied result ≡ text_in value.now }
-{
-    match value {
-        Json::Str(text) => Some(text.text().as_bytes()),
-        _ => None,
-    }
-}
-
 fn has_parameter(members: &Members, name: &[u8]) -> bool
     ensures { result ≡ has_parameter name.now members.now }
 {
@@ -58,7 +49,7 @@ fn has_parameter(members: &Members, name: &[u8]) -> bool
 fn text_of<'a>(members: &'a Members, name: &[u8]) -> Option<&'a [u8]>
     ensures { option_copied result ≡ option_and_then text_in (parameter name.now members.now) }
 {
-    text_in(members.find(name)?)
+    members.find(name)?.text()
 }
 
 fn is_hs256(members: &Members) -> bool

@@ -1,4 +1,4 @@
-use Rattle.std.proofs.Common.{◌≡◌, ◌∙◌, sym}
+use Rattle.std.proofs.Common.{◌∙◌, sym}
 use Rattle.usp_claims.proofs.Rows.{no_fault}
 use Rattle.usp_claims.proofs.claims.check.Goals as goal
 

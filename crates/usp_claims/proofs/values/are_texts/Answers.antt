@@ -1,4 +1,4 @@
-use Rattle.std.proofs.Common.{◌≡◌, ◌∙◌, sym}
+use Rattle.std.proofs.Common.{◌∙◌, sym}
 use Rattle.usp_claims.specs.Values.{is_text}
 use Rattle.usp_claims.proofs.Rows.{all_stops, all_goes}
 use Rattle.usp_claims.proofs.values.are_texts.Goals as goal

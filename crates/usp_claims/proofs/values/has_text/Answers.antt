@@ -1,4 +1,4 @@
-use Rattle.std.proofs.Common.{◌≡◌, ◌∙◌, sym}
+use Rattle.std.proofs.Common.{◌∙◌, sym}
 use Rattle.usp_claims.specs.Values.{is_this}
 use Rattle.usp_claims.proofs.Rows.{any_stops, any_goes}
 use Rattle.usp_claims.proofs.values.has_text.Goals as goal
