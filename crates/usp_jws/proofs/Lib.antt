@@ -4,3 +4,6 @@ pub mod Dots
 pub mod Once
 pub mod Tokens
 pub mod Parameters
+pub mod Sealing
+pub mod TokenLetters
+pub mod Naming

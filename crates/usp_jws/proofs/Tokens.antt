@@ -12,7 +12,7 @@ use Rattle.usp_jws.specs.Dotted.{dotted}
 use Rattle.usp_jws.specs.Hmac.{hmac}
 use Rattle.usp_jws.specs.Keys.{KeyValue, agrees}
 use Rattle.usp_jws.specs.Parts.{PartsValue, signed_of, text_of}
-use Rattle.usp_jws.specs.Sealed.{header_text, signed_text, sealed}
+use Rattle.usp_jws.specs.Sealed.{header_text, signed_text, sealed, sealed_len}
 use Rattle.usp_jws.specs.declared.parts.TokenFault.{TokenFault}
 use Rattle.usp_jws.specs.declared.parts.TokenFault.TheVariants.{TooLong, NotThree, NotB64}
 use Rattle.usp_jws.proofs.Dots.{dots_cut}
@@ -104,7 +104,20 @@ is_token header payload digest text bh bp bd lh lp ld is = (
   record { header = header; payload = payload; signature = digest; bytes = (bh, bp, bd); spelled = is },
 )
 
-same_bytes : (xs ys : List ℕ) → xs ≡ ys → bytes_eq xs ys ≡ true
+-- how long what is sealed is
+pub length-compact : (header payload digest text : List ℕ) (kid : ℕ) → length header ≡ kid + 24 → length digest ≡ 32 → text ≡ compact header payload digest → length text ≡ sealed_len kid (length payload)
+length-compact header payload digest text kid lh ld is =
+    omega (
+      arith,
+      ap length is,
+      length-append (b64u header) (46 ∷ (b64u payload ++ 46 ∷ b64u digest)),
+      length-append (b64u payload) (46 ∷ b64u digest),
+      length-b64u header,
+      length-b64u payload,
+      length-b64u digest,
+    )
+
+pub same_bytes : (xs ys : List ℕ) → xs ≡ ys → bytes_eq xs ys ≡ true
 same_bytes xs ys e = search (rules, bytes_eq-Decides xs ys, e)
 
 -- The key that sealed a token agrees with its parts.

@@ -1,5 +1,5 @@
 // A key.
-ghost use Rattle.std.specs.Prelude.{◌≡◌, ◌≤◌, length, IfOk, IfErr};
+ghost use Rattle.std.specs.Prelude.{◌≡◌, ◌≤◌, length, true, IfOk, IfErr};
 ghost use Rattle.usp_jws.specs.Letters.{is_kid_letter, is_identity_byte, is_kid, is_identity};
 ghost use Rattle.std.specs.List.{list_all};
 ghost use Rattle.usp_jws.specs.Hmac.{hmac, IsDigest};
@@ -90,6 +90,7 @@ impl Key {
     /// The name of the key, the `kid` of a header (RFC 7515 section 4.1.4).
     pub fn kid(&self) -> &[u8]
         ensures value { result.now ≡ self.now.kid }
+        ensures named { is_kid self.now.kid ≡ true }
         ensures short { length result.now ≤ 64 }
     {
         &self.kid

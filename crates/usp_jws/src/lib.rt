@@ -18,7 +18,10 @@ pub use fault::NoMemory;
 pub use header::{Header, HeaderFault, read_header};
 pub use hmac::mac;
 pub use key::{Key, KeyFault};
-pub use laws::{exactly_one, refused_are_no_headers, refused_are_no_tokens, sealed_verifies};
+pub use laws::{
+    exactly_one, refused_are_no_headers, refused_are_no_tokens, sealed_is_read, sealed_verifies,
+    tokens_have_letters,
+};
 pub use parts::{Parts, TokenFault, split};
 pub use ring::{Ring, RingFault, verifier};
 pub use token::{Token, seal};

@@ -1,5 +1,5 @@
 // The keys that a token may be sealed with.
-ghost use Rattle.std.specs.Prelude.{◌≡◌, ◌≤◌, IfOk, IfErr, position};
+ghost use Rattle.std.specs.Prelude.{◌≡◌, ◌≤◌, length, None, IfOk, IfErr, position};
 ghost use Rattle.std.specs.Option.{option_copied};
 ghost use Rattle.usp_jws.specs.Base64url.{b64u};
 ghost use Rattle.usp_jws.specs.Hmac.{hmac};
@@ -148,7 +148,9 @@ impl Ring {
 
     /// The keys in their order.
     pub fn keys(&self) -> &[Key]
-        ensures { result.now ≡ self.now }
+        ensures keys { result.now ≡ self.now }
+        ensures count { (1 ≤ length self.now) × (length self.now ≤ 64) }
+        ensures apart { first_repeat self.now ≡ None }
     {
         &self.keys
     }

@@ -1,11 +1,13 @@
 // A token's text.
-ghost use Rattle.std.specs.Prelude.{◌≡◌, ◌≤◌, ◌+◌, ◌∷◌, ◌++◌, length, IfOk, OnOk, string_bytes};
+ghost use Rattle.std.specs.Prelude.{◌≡◌, ◌≤◌, ◌<◌, ◌+◌, ◌∷◌, ◌++◌, length, true, IfOk, OnOk, string_bytes};
+ghost use Rattle.std.specs.List.{list_all};
 ghost use Rattle.base64.specs.GeneralPurpose.{IsBytes};
 ghost use Rattle.usp_jws.specs.Base64url.{b64u};
 ghost use Rattle.usp_jws.specs.Compact.{IsToken, compact};
 ghost use Rattle.usp_jws.specs.Hmac.{hmac, IsDigest};
+ghost use Rattle.usp_jws.specs.Letters.{is_token_letter};
 ghost use Rattle.usp_jws.specs.Parts.{text_of};
-ghost use Rattle.usp_jws.specs.Sealed.{header_text, sealed};
+ghost use Rattle.usp_jws.specs.Sealed.{header_text, sealed, sealed_len};
 
 use crate::{Key, NoMemory, Parts};
 use base64::engine::general_purpose::URL_SAFE_NO_PAD;
@@ -41,9 +43,12 @@ impl Token {
     }
 
     /// The token's text.
+    #[tactic(auto, using(crate::proofs::TokenLetters::token_some, crate::proofs::TokenLetters::token_letters))]
     pub fn text(&self) -> &[u8]
         ensures text { result.now ≡ self.now }
         ensures token { IsToken self.now }
+        ensures some { 0 < length self.now }
+        ensures letters { list_all is_token_letter self.now ≡ true }
     {
         &self.text
     }
@@ -101,7 +106,8 @@ fn compact_of(alloc: Global, header: &[u8], payload: &[u8], key: &Key) -> Result
 #[tactic(auto, unfolding(crate::specs::Sealed::sealed))]
 pub fn seal(alloc: Global, key: &Key, payload: &[u8]) -> Result<Token, NoMemory>
     requires { length payload.now ≤ 6000 }
-    ensures { IfOk result (λ token. token ≡ sealed key.now payload.now) }
+    ensures text { IfOk result (λ token. token ≡ sealed key.now payload.now) }
+    ensures length { IfOk result (λ token. length token ≡ sealed_len (length key.now.kid) (length payload.now)) }
 {
     let header = header_of(alloc, key.kid())?;
     let text = compact_of(alloc, &header, payload, key)?;

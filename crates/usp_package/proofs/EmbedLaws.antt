@@ -5,7 +5,8 @@ use Rattle.std.specs.List.{list_all, starts_with}
 use Rattle.std.proofs.lemmas.Bool.{lt-ltb}
 use Rattle.std.proofs.lemmas.Bool.Decides.{nat_tests}
 use Rattle.std.proofs.lemmas.List.{append-nil, length-append, length-drop, drop_at, drop-append-le}
-use Rattle.usp_uri.specs.Letters.{is_colon, is_hash, ends_authority, ends_path, is_unreserved, is_sub_delim, is_one_of}
+use Rattle.std.proofs.lemmas.List.Folds.{list_all-append}
+use Rattle.usp_uri.specs.Letters.{is_colon, is_hash, ends_authority, ends_path, is_unreserved, is_sub_delim, is_one_of, is_literal}
 use Rattle.usp_uri.specs.Cuts.{with_mark}
 use Rattle.usp_uri.specs.Components.{Components, components_of, text_of, authority_of, target_of, query_in}
 use Rattle.usp_uri.specs.Faults.{normal_of, begins_with_digits}
@@ -16,6 +17,7 @@ use Rattle.usp_uri.proofs.NormalLemmas.{accepted}
 use Rattle.usp_uri.proofs.AcceptedLaws.{accepted_spelled, swap_test}
 use Rattle.usp_uri.proofs.SpelledLaws.{digits_stay}
 use Rattle.usp_uri.proofs.EscapeLaws.{all_pass}
+use Rattle.usp_uri.proofs.QueryLaws.{begun_normal, grown_normal}
 use Rattle.usp_package.specs.Name.{is_name_byte, is_attr_name}
 use Rattle.usp_package.specs.Package.{first_from, begins_authority, Zones, zones_of, separates, is_first, is_named, is_place_at, is_place_in, IsFirstPlace, is_run_byte, IsSplit, Finds, nothing, carried, package_of, joint, embedded}
 use Rattle.usp_package.proofs.FindLaws.{package_of_finds}
@@ -225,3 +227,28 @@ embedded_again name uri token attr normal run none text is =
     let found = embedded_carries p name token s.uri (name_bytes name attr) run (subst (λ (t : List ℕ). Finds name t nothing) s.whole nowhere) in
     let here = subst (λ (t : List ℕ). Finds name (embedded name t (query_in uri) token) (carried token t [])) (sym s.whole) found in
     package_of_only name text (carried token uri []) (subst (λ (t : List ℕ). Finds name t (carried token uri [])) (sym is) here)
+
+-- ---- a URI with a package is in normal form
+
+unreserved_literal : (good : ℕ → Bool) → ((c : ℕ) → good c ≡ true → is_unreserved c ≡ true) → (text : List ℕ) → list_all good text ≡ true → list_all is_literal text ≡ true
+unreserved_literal good out [] e = refl
+unreserved_literal good out (c ∷ rest) e =
+    let first = both (good c) (list_all good rest) e in
+    rw (out c first.0, unreserved_literal good out rest first.1) refl
+
+package_literal : (name token : List ℕ) → list_all is_name_byte name ≡ true → list_all is_run_byte token ≡ true → list_all is_literal (package_text name token) ≡ true
+package_literal name token n t =
+    list_all-append is_literal name (61 ∷ token)
+    ∙ all_pass (list_all is_literal name) (list_all is_literal (61 ∷ token)) (unreserved_literal is_name_byte name_unreserved name n) (unreserved_literal is_run_byte run_unreserved token t)
+
+by_query : (query : Option (List ℕ)) (name uri token : List ℕ) → query_in uri ≡ query → normal_of uri ≡ Ok uri → list_all is_literal (package_text name token) ≡ true
+    → length (embedded name uri query token) ≤ 8192 → normal_of (embedded name uri query token) ≡ Ok (embedded name uri query token)
+by_query None name uri token is normal literal short = begun_normal uri (package_text name token) normal is literal short
+by_query (Some query) name uri token is normal literal short = grown_normal uri query (38 ∷ package_text name token) normal is literal short
+
+-- What `embed` makes is read as itself where it is short enough.
+pub embedded_normal : (name uri token : List ℕ) → is_attr_name name ≡ true → normal_of uri ≡ Ok uri → list_all is_run_byte token ≡ true
+    → (text : List ℕ) → text ≡ embedded name uri (query_in uri) token → length text ≤ 8192 → normal_of text ≡ Ok text
+embedded_normal name uri token attr normal run text is short =
+    subst (λ (t : List ℕ). normal_of t ≡ Ok t) (sym is)
+    (by_query (query_in uri) name uri token refl normal (package_literal name token (name_bytes name attr) run) (omega (arith, ap length is)))

@@ -1,9 +1,10 @@
 //! Putting a package into a URI, and a content text together.
 
-ghost use Rattle.std.specs.Prelude.{◌≡◌, ◌++◌, ◌<◌, length, true, IfOk, []};
+ghost use Rattle.std.specs.Prelude.{◌≡◌, ◌++◌, ◌<◌, ◌≤◌, length, true, IfOk, Ok, []};
 ghost use Rattle.std.specs.List.{list_all};
 ghost use Rattle.std.specs.Option.{option_copied};
 ghost use Rattle.usp_uri.specs.Components.{query_in};
+ghost use Rattle.usp_uri.specs.Faults.{normal_of};
 ghost use Rattle.usp_package.specs.Package.{embedded, is_run_byte, package_of, nothing, carried};
 
 use crate::name::AttrName;
@@ -59,6 +60,8 @@ pub fn embed(alloc: Global, name: &AttrName, uri: &Uri, token: &[u8]) -> Result<
     ensures text { IfOk result (λ text. text.items ≡ embedded name.now uri.now (query_in uri.now) token.now) }
     // Found again it is this token, with the whole URI before it and nothing after.
     ensures back { IfOk result (λ text. package_of name.now text.items ≡ carried token.now uri.now []) }
+    // A URI in normal form again, where it is short enough to be read.
+    ensures normal { IfOk result (λ text. length text.items ≤ 8192 → normal_of text.items ≡ Ok text.items) }
 {
     let text = with_package(alloc, name.text(), uri.text(), uri.query(), token)?;
     Ok(text)

@@ -132,7 +132,7 @@ no_hash at (c ∷ rest) e =
 allowed_path : (c : ℕ) → is_literal c ≡ true → ends_path c ≡ false → (is_unreserved c || is_sub_delim c || is_one_of (codes ":@") c || is_one_of (codes "/") c) ≡ true
 allowed_path c e f = grind (arith, nat_tests)
 
-allowed_query : (c : ℕ) → is_literal c ≡ true → (is_unreserved c || is_sub_delim c || is_one_of (codes ":@") c || is_one_of (codes "/?") c) ≡ true
+pub allowed_query : (c : ℕ) → is_literal c ≡ true → (is_unreserved c || is_sub_delim c || is_one_of (codes ":@") c || is_one_of (codes "/?") c) ≡ true
 allowed_query c e = grind (arith, nat_tests)
 
 pub swap_test : (l p d one still : Bool) → (l ≡ true → one ≡ true) → (d ≡ true → still ≡ true) → (l || (p && d)) ≡ true → (one || (p && still)) ≡ true

@@ -246,7 +246,7 @@ pieces_settled (c ∷ rest) e =
     let first = both (is_pchar_or (codes "/") c || (eqb c 37 && begins_settled rest)) (are_settled_or (codes "/") rest) e in
     piece_case (is_slash c) c rest (until_settled (c ∷ rest) e) (pieces_settled rest first.1)
 
-settled_more : (text more : List ℕ) → begins_settled text ≡ true → begins_settled (text ++ more) ≡ true
+pub settled_more : (text more : List ℕ) → begins_settled text ≡ true → begins_settled (text ++ more) ≡ true
 settled_more [] more e = absurd cc
 settled_more (high ∷ []) more e = absurd cc
 settled_more (high ∷ low ∷ rest) more e = e

@@ -15,3 +15,4 @@ pub mod AcceptedLaws
 pub mod EscapeLaws
 pub mod NormalLaws
 pub mod PlaceLaws
+pub mod QueryLaws

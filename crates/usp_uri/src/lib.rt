@@ -17,7 +17,7 @@ mod writing;
 
 pub use cuts::{cut_at_colon, cut_at_hash, cut_authority, cut_path};
 pub use fault::{MAX_LEN, NoMemory, UriFault};
-pub use laws::removes_dot_segments_by_the_standard;
+pub use laws::{a_longer_query_stays_normal, removes_dot_segments_by_the_standard};
 pub use letters::{is_gen_delim, is_reserved, is_sub_delim, is_unreserved};
 pub use uri::{Place, Uri, moved, read_uri, request_uri};
 

@@ -1,7 +1,7 @@
 use Rattle.std.proofs.Common.{ℕ, List, ap, ◌∙◌}
 use Rattle.std.specs.Option.{option_copied}
 use Rattle.usp_package.specs.Package.{embedded}
-use Rattle.usp_package.proofs.EmbedLaws.{embedded_again}
+use Rattle.usp_package.proofs.EmbedLaws.{embedded_again, embedded_normal}
 use Rattle.usp_package.proofs.embedding.embed.Goals as goal
 
 pub returns-clause-text : goal.returns-clause-text
@@ -12,3 +12,6 @@ returns-clause-text c =
 pub returns-clause-back : goal.returns-clause-back
 returns-clause-back c =
     embedded_again c.args.name.now c.args.uri.now c.args.token.now c.text.ensures.name c.text-2.ensures.normal c.requires.run c.requires.none c.in_ok-text.text.items (returns-clause-text c)
+
+pub returns-clause-normal : goal.returns-clause-normal
+returns-clause-normal c = embedded_normal c.args.name.now c.args.uri.now c.args.token.now c.text.ensures.name c.text-2.ensures.normal c.requires.run c.in_ok-text.text.items (returns-clause-text c)
