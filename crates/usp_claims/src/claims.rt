@@ -177,6 +177,7 @@ pub fn read_claims(alloc: Global, payload: &[u8]) -> Result<Claims, ClaimFault>
 /// what must be escaped (RFC 8259 section 7).
 pub fn text(alloc: Global, claims: &Claims) -> Result<Vec<u8>, NoMemory>
     ensures canonical { IfOk result (λ text. text.items ≡ canon_members claims.now) }
+    ensures bound { IfOk result (λ text. length text.items ≤ 6000) }
     ensures reads_back { IfOk result (λ text. KeepsLimits claims.now → IsReading text.items claims.now) }
 {
     Ok(write_members(alloc, &claims.members)?)

@@ -106,8 +106,8 @@ fn judge_token(
     judge_parts(alloc, kit, profile, &parts, content, moment)
 }
 
-// The normal form of a text. None exactly where it has none.
-fn normal_form(alloc: Global, text: &[u8]) -> Result<Option<Uri>, NoMemory>
+/// The normal form of a text (RFC 3986 section 6.2). None exactly where it is no URI that has one.
+pub fn normal_form(alloc: Global, text: &[u8]) -> Result<Option<Uri>, NoMemory>
     ensures { IfOk result (λ uri. uri ≡ result_ok (normal_of text.now)) }
 {
     match read_uri(alloc, text) {

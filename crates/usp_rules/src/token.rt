@@ -59,8 +59,8 @@ fn claims_want_memory(fault: ClaimFault) -> bool
     }
 }
 
-// The claim set of a payload. None exactly where it is none.
-fn claims_of(alloc: Global, payload: &[u8]) -> Result<Option<Claims>, NoMemory>
+/// The claim set of a payload. None exactly where it is none.
+pub fn claims_of(alloc: Global, payload: &[u8]) -> Result<Option<Claims>, NoMemory>
     ensures { IfOk result (λ found. MatchOption found ((members : Members) → SpellsClaims payload.now members → ⊥)
         (λ claims. SpellsClaims payload.now claims)) }
 {

@@ -1,63 +1,43 @@
--- What the program writes for a configuration and an input, and how it ends.
-use Rattle.std.specs.Prelude.{◌≡◌, ℕ, nat_lt, ◌==◌, List, [], ◌∷◌, ◌++◌, length, codes, Option, Some, None, MatchBool}
-use Rattle.usp_base.specs.declared.fault.Status.{Status}
-use Rattle.usp_base.specs.declared.fault.Status.TheVariants.{Done, Denials, Refused}
-use Rattle.usp_tool.specs.Conf.{secret_of, key_of}
-use Rattle.usp_tool.specs.Judging.{Judges}
-use Rattle.usp_tool.specs.Line.{AskValue, ask_of}
-use Rattle.usp_tool.specs.declared.verdict.Rule.{Rule}
-use Rattle.usp_tool.specs.declared.verdict.Rule.TheVariants as rule
-use Rattle.usp_tool.specs.declared.verdict.Verdict.{Verdict}
-use Rattle.usp_tool.specs.declared.verdict.Verdict.TheVariants.{Admitted, Denied}
+-- What the program writes for a command, a configuration and an input.
+use Rattle.std.specs.Prelude.{◌≡◌, ℕ, List, [], ◌++◌, codes, Option, Some, None, IfSome, MatchBool}
+use Rattle.usp_conf.specs.Readings.{Configures, RefusesConf}
+use Rattle.usp_conf.specs.Values.{ConfValue}
+use Rattle.usp_conf.specs.declared.fault.ConfFault.{ConfFault}
+use Rattle.usp_conf.specs.declared.fault.ConfFault.TheVariants as fault
+use Rattle.usp_jws.specs.Keys.{KeyValue}
+use Rattle.usp_nonce.specs.History.{Call, IsLegal}
+use Rattle.usp_tool.specs.Check.{Checks}
+use Rattle.usp_tool.specs.Lines.{is_long_input, lines_of}
+use Rattle.usp_tool.specs.Outcome.{Outcome, fault_name, refused}
+use Rattle.usp_tool.specs.Sign.{SignsAll, key_named}
+use Rattle.usp_tool.specs.Words.{Command, check, sign}
 
--- a rule's number and name
-abbrev pub rule_text : Rule → List ℕ
-rule_text rule.Uri = codes "1 Uri"
-rule_text rule.Missing = codes "2 Missing"
-rule_text rule.Package = codes "3 Package"
-rule_text rule.Header = codes "4 Header"
-rule_text rule.Signature = codes "5 Signature"
-rule_text rule.Claims = codes "6 Claims"
-rule_text rule.Expired = codes "13 Expired"
-rule_text rule.Container = codes "15 Container"
+-- The lines are judged with one nonce table, whose calls are a legal history.
+pub record IsChecked (conf : ConfValue) (lines : List (List ℕ)) (outcome : Outcome) : Type 0 where
+  pub history : List Call
+  pub legal : IsLegal conf.room history
+  pub checks : Checks conf.site.profile conf.room 1 [] lines outcome history
 
--- the line of a verdict
-abbrev pub verdict_line : Verdict → List ℕ
-verdict_line (Admitted content) = codes "1 admitted " ++ content ++ 10 ∷ []
-verdict_line (Denied rule) = codes "1 denied " ++ rule_text rule ++ 10 ∷ []
+-- the lines are judged, or signed with the key of that name
+abbrev pub Works : Command → ConfValue → List (List ℕ) → Outcome → Type 0
+Works (check name) conf lines outcome = IsChecked conf lines outcome
+Works (sign name kid) conf lines outcome =
+    (key : KeyValue) × (key_named conf.site.profile.ring kid ≡ Some key) × SignsAll conf.site.profile.attribute key 1 lines outcome
 
--- a text, and the status behind it
-pub record Outcome : Type 0 where
-  pub text : List ℕ
-  pub status : Status
+-- an input that is too long, or has too long a line, is refused
+abbrev pub WorksInput : Command → ConfValue → List ℕ → Outcome → Type 0
+WorksInput command conf input outcome = MatchBool (is_long_input input) (outcome ≡ refused (codes "input")) (Works command conf (lines_of input) outcome)
 
-abbrev pub refused : List ℕ → Outcome
-refused what = record { text = codes "refused " ++ what ++ 10 ∷ []; status = Refused }
+-- the key of `sign` is not in the ring
+abbrev pub LacksKey : Command → ConfValue → Type 0
+LacksKey (check name) conf = ⊥
+LacksKey (sign name kid) conf = key_named conf.site.profile.ring kid ≡ None
 
-abbrev pub nothing : Outcome
-nothing = record { text = []; status = Done }
-
--- the outcome of a verdict
-abbrev pub outcome_of : Option Verdict → Outcome
-outcome_of None = refused (codes "line 1")
-outcome_of (Some (Admitted content)) = record { text = verdict_line (Admitted content); status = Done }
-outcome_of (Some (Denied rule)) = record { text = verdict_line (Denied rule); status = Denials }
-
--- The outcome of a line: that of the verdict on its ask.
-abbrev pub AnswersAsk : List ℕ → Option AskValue → Outcome → Type 0
-AnswersAsk secret None outcome = outcome ≡ refused (codes "line 1")
-AnswersAsk secret (Some ask) outcome = (verdict : Option Verdict) × Judges (key_of secret) ask verdict × (outcome ≡ outcome_of verdict)
-
--- Nothing is written for an empty input, and an input of more than 32,768 bytes is refused.
-abbrev pub AnswersInput : List ℕ → List ℕ → Outcome → Type 0
-AnswersInput secret input outcome =
-    MatchBool (nat_lt 32768 (length input)) (outcome ≡ refused (codes "input"))
-    (MatchBool (length input == 0) (outcome ≡ nothing) (AnswersAsk secret (ask_of input) outcome))
-
-abbrev pub AnswersSecret : Option (List ℕ) → List ℕ → Outcome → Type 0
-AnswersSecret None input outcome = outcome ≡ refused (codes "conf unbuilt")
-AnswersSecret (Some secret) input outcome = AnswersInput secret input outcome
-
--- the outcome of a configuration and an input
-abbrev pub Answers : List ℕ → List ℕ → Outcome → Type 0
-Answers conf input outcome = AnswersSecret (secret_of conf) input outcome
+-- The outcome of a command and a configuration, and of the input where it is read: what is left to be read is that, if it is told.
+pub data Answers (command : Command) (conf : List ℕ) (left : Option (List ℕ)) (outcome : Outcome) : Type 0 where
+  no_conf : (found : ConfFault) → RefusesConf found conf → (found ≡ fault.NoMemory → ⊥) → outcome ≡ refused (codes "conf " ++ fault_name found)
+      → Answers command conf left outcome
+  no_key : (value : ConfValue) → Configures conf value → LacksKey command value → outcome ≡ refused (codes "key")
+      → Answers command conf left outcome
+  worked : (value : ConfValue) (input : List ℕ) → Configures conf value → (LacksKey command value → ⊥) → IfSome left (λ bytes. bytes ≡ input)
+      → WorksInput command value input outcome → Answers command conf left outcome

@@ -1,6 +1,9 @@
 pub mod Answer
-pub mod Conf
-pub mod Judging
+pub mod Check
 pub mod Line
+pub mod Lines
+pub mod Outcome
 pub mod Run
+pub mod Sign
 pub mod Words
+pub mod Steps

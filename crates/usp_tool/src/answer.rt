@@ -1,21 +1,22 @@
-// The text for an input.
-ghost use Rattle.std.specs.Prelude.{◌≡◌, ◌∷◌, [], length, IfOk};
-ghost use Rattle.usp_tool.specs.Answer.{Answers, AnswersAsk, AnswersInput, outcome_of, refused, rule_text};
-ghost use Rattle.usp_tool.specs.Conf.{key_of};
-ghost use Rattle.usp_tool.specs.Line.{ask_of};
+// A text that is written, and how it ends.
+ghost use Rattle.std.specs.Prelude.{◌≡◌, ◌++◌, IfOk, OnOk};
+ghost use Rattle.std.specs.Fmt.{decimal};
+ghost use Rattle.usp_tool.specs.Outcome.{fault_name, refused, refused_line};
 
-use crate::conf::secret_of;
-use crate::judging::judge;
-use crate::line::ask_of;
-use crate::verdict::{Rule, Verdict};
-use std::alloc::Global;
+use std::alloc::{AllocError, Global};
 use std::marker::Model;
 use usp_base::Status;
-use usp_jws::{Key, NoMemory, Ring};
-use usp_uri::Uri;
+use usp_conf::ConfFault;
 
-/// The longest input in bytes.
-pub const LONGEST_INPUT: usize = 32768;
+/// There was no memory.
+#[derive(Clone, Copy, Debug, PartialEq, Eq)]
+pub struct NoMemory;
+
+impl From<AllocError> for NoMemory {
+    fn from(_: AllocError) -> Self {
+        NoMemory
+    }
+}
 
 /// A text, and the status behind it.
 #[derive(Drop)]
@@ -25,7 +26,7 @@ pub struct Answer {
 }
 
 impl Model for Answer {
-    ghost use Rattle.usp_tool.specs.Answer.{Outcome};
+    ghost use Rattle.usp_tool.specs.Outcome.{Outcome};
 
     ghost Value = { Outcome };
 
@@ -33,6 +34,12 @@ impl Model for Answer {
 }
 
 impl Answer {
+    pub fn new(text: Vec<u8>, status: Status) -> Answer
+        ensures { result ≡ record { text = text.items; status = status } }
+    {
+        Answer { text, status }
+    }
+
     pub fn text(&self) -> &[u8]
         ensures { result.now ≡ self.now.text }
     {
@@ -46,8 +53,8 @@ impl Answer {
     }
 }
 
-// `refused` and what is refused.
-fn refused(alloc: Global, what: &[u8]) -> Result<Answer, NoMemory>
+/// `refused` and what is refused.
+pub fn refused(alloc: Global, what: &[u8]) -> Result<Answer, NoMemory>
     ensures { IfOk result (λ answer. answer ≡ refused what.now) }
 {
     let mut text = Vec::new(alloc);
@@ -60,109 +67,46 @@ fn refused(alloc: Global, what: &[u8]) -> Result<Answer, NoMemory>
     })
 }
 
-fn rule_text(rule: Rule) -> &'static [u8]
-    ensures { result.now ≡ rule_text rule }
+/// Puts a number behind a text.
+pub fn push_number(alloc: Global, text: &mut Vec<u8>, number: u64) -> Result<(), NoMemory>
+    ensures { OnOk result (text.new.items ≡ text.old.items ++ decimal number) }
 {
-    match rule {
-        Rule::Uri => b"1 Uri",
-        Rule::Missing => b"2 Missing",
-        Rule::Package => b"3 Package",
-        Rule::Header => b"4 Header",
-        Rule::Signature => b"5 Signature",
-        Rule::Claims => b"6 Claims",
-        Rule::Expired => b"13 Expired",
-        Rule::Container => b"15 Container",
-    }
+    let digits = number.to_string(alloc)?;
+    text.extend_from_slice(digits.as_bytes())?;
+    Ok(())
 }
 
-fn admitted(alloc: Global, content: &Uri) -> Result<Answer, NoMemory>
-    ensures { IfOk result (λ answer. answer ≡ outcome_of (Some (Verdict.Admitted content.now))) }
+/// Puts the line that refuses a line of the input behind a text.
+pub fn push_refused_line(alloc: Global, text: &mut Vec<u8>, number: u64) -> Result<(), NoMemory>
+    ensures { OnOk result (text.new.items ≡ text.old.items ++ (refused_line number).text) }
 {
-    let mut text = Vec::new(alloc);
-    text.extend_from_slice(b"1 admitted ")?;
-    text.extend_from_slice(content.text())?;
+    text.extend_from_slice(b"refused line ")?;
+    push_number(alloc, text, number)?;
     text.push(b'\n')?;
-    Ok(Answer {
-        text,
-        status: Status::Done,
-    })
+    Ok(())
 }
 
-fn denied(alloc: Global, rule: Rule) -> Result<Answer, NoMemory>
-    ensures { IfOk result (λ answer. answer ≡ outcome_of (Some (Verdict.Denied rule))) }
+// What is named of a configuration that is refused.
+fn fault_name(fault: &ConfFault) -> &[u8]
+    ensures { result.now ≡ fault_name fault.now }
 {
-    let mut text = Vec::new(alloc);
-    text.extend_from_slice(b"1 denied ")?;
-    text.extend_from_slice(rule_text(rule))?;
-    text.push(b'\n')?;
-    Ok(Answer {
-        text,
-        status: Status::Denials,
-    })
-}
-
-fn verdict_answer(alloc: Global, verdict: Option<Verdict>) -> Result<Answer, NoMemory>
-    ensures { IfOk result (λ answer. answer ≡ outcome_of verdict) }
-{
-    match verdict {
-        None => refused(alloc, b"line 1"),
-        Some(Verdict::Admitted(content)) => admitted(alloc, &content),
-        Some(Verdict::Denied(rule)) => denied(alloc, rule),
+    match fault {
+        ConfFault::Json => b"json",
+        ConfFault::Missing { member } => member.name().as_bytes(),
+        ConfFault::Kind { member } => member.name().as_bytes(),
+        ConfFault::Range { member } => member.name().as_bytes(),
+        ConfFault::ShortKey { kid } => kid.text().as_bytes(),
+        ConfFault::Repeat { member } => member.name().as_bytes(),
+        ConfFault::NoMemory => b"memory",
     }
 }
 
-// The ring of one key, which a secret of 32 bytes makes.
-fn ring_of(alloc: Global, secret: &[u8]) -> Result<Ring, NoMemory>
-    requires { length secret.now ≡ 32 }
-    ensures { IfOk result (λ ring. ring ≡ key_of secret.now ∷ []) }
+/// `refused conf` and the member or key that is at fault.
+pub fn refused_conf(alloc: Global, fault: &ConfFault) -> Result<Answer, NoMemory>
+    ensures { IfOk result (λ answer. answer ≡ refused (codes "conf " ++ fault_name fault.now)) }
 {
-    let Ok(key) = Key::new(alloc, b"k1", b"cp", secret) else {
-        return Err(NoMemory);
-    };
-    let mut keys = Vec::new(alloc);
-    keys.push(key)?;
-    match Ring::new(keys) {
-        Ok(ring) => Ok(ring),
-        Err(_) => Err(NoMemory),
-    }
-}
-
-// The answer to a line.
-fn line_answer(alloc: Global, secret: &[u8], line: &[u8]) -> Result<Answer, NoMemory>
-    requires { length secret.now ≡ 32 }
-    ensures { IfOk result (λ answer. AnswersAsk secret.now (ask_of line.now) answer) }
-{
-    let Some(ask) = ask_of(line) else {
-        return refused(alloc, b"line 1");
-    };
-    let ring = ring_of(alloc, secret)?;
-    let verdict = judge(alloc, &ring, &ask)?;
-    verdict_answer(alloc, verdict)
-}
-
-// The answer to an input under a secret.
-fn input_answer(alloc: Global, secret: &[u8], input: &[u8]) -> Result<Answer, NoMemory>
-    requires { length secret.now ≡ 32 }
-    ensures { IfOk result (λ answer. AnswersInput secret.now input.now answer) }
-{
-    if input.len() > LONGEST_INPUT {
-        return refused(alloc, b"input");
-    }
-    if input.is_empty() {
-        return Ok(Answer {
-            text: Vec::new(alloc),
-            status: Status::Done,
-        });
-    }
-    line_answer(alloc, secret, input)
-}
-
-/// The answer to a configuration and an input.
-pub fn answer_to(alloc: Global, conf: &[u8], input: &[u8]) -> Result<Answer, NoMemory>
-    ensures { IfOk result (λ answer. Answers conf.now input.now answer) }
-{
-    match secret_of(alloc, conf)? {
-        None => refused(alloc, b"conf unbuilt"),
-        Some(secret) => input_answer(alloc, &secret, input),
-    }
+    let mut what = Vec::new(alloc);
+    what.extend_from_slice(b"conf ")?;
+    what.extend_from_slice(fault_name(fault))?;
+    refused(alloc, &what)
 }

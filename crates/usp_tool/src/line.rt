@@ -1,70 +1,34 @@
-// An input line.
+// A line of `check`.
 ghost use Rattle.std.specs.Prelude.{◌≡◌};
-ghost use Rattle.std.specs.List.{list_all};
-ghost use Rattle.usp_tool.specs.Line.{is_field_byte, is_field, ask_of};
+ghost use Rattle.std.specs.Option.{option_copied};
+ghost use Rattle.usp_tool.specs.Line.{ask_at, ask_of};
 
-use std::marker::Model;
-use usp_base::{cut_at, read_number, without_end};
+use usp_base::{cut_at, read_number};
+use usp_rules::Ask;
 
 const LAST_MOMENT: u64 = 4_503_599_627_370_495;
 
-/// What a line asks: whether the token that the URI carries admits its content at the moment.
-#[derive(Drop)]
-pub struct Ask<'a> {
-    moment: u64,
-    uri: &'a [u8],
-}
-
-impl<'a> Model for Ask<'a> {
-    ghost use Rattle.usp_tool.specs.Line.{AskValue};
-
-    ghost Value = { AskValue };
-
-    ghost view = { λ a. record { moment = a.moment; uri = a.uri.now } };
-}
-
-impl<'a> Ask<'a> {
-    /// In seconds since 1970.
-    pub fn moment(&self) -> u64
-        ensures { result ≡ self.now.moment }
-    {
-        self.moment
-    }
-
-    /// The URI with its package.
-    pub fn uri(&self) -> &'a [u8]
-        ensures { result.now ≡ self.now.uri }
-    {
-        self.uri
-    }
-}
-
-fn is_field_byte(b: u8) -> bool
-    ensures { result ≡ is_field_byte b }
+// The ask at a moment, where that is a number below 2^52.
+fn ask_at<'a>(moment: &[u8], uri: &'a [u8], cookie: Option<&'a [u8]>) -> Option<Ask<'a>>
+    ensures { result ≡ ask_at moment.now uri.now (option_copied cookie.entry) }
 {
-    b != b' ' && b != b'\n'
+    let moment = read_number(moment, LAST_MOMENT)?;
+    Some(Ask::new(uri, cookie, moment))
 }
 
-fn are_field_bytes(text: &[u8]) -> bool
-    ensures { result ≡ list_all is_field_byte text.now }
-{
-    text.iter().all(|b| is_field_byte(*b))
-}
-
-fn is_field(text: &[u8]) -> bool
-    ensures { result ≡ is_field text.now }
-{
-    1 <= text.len() && are_field_bytes(text)
-}
-
-/// The ask of a line `MOMENT URI`. None exactly where the line has another form.
+/// The ask of a line `MOMENT URI` or `MOMENT URI TOKEN`. None exactly where the line has another form.
 pub fn ask_of(line: &[u8]) -> Option<Ask<'_>>
     ensures { result ≡ ask_of line.now }
 {
-    let (moment, uri) = cut_at(without_end(line, b'\n'), b' ')?;
-    if !is_field(uri) {
+    let (moment, rest) = cut_at(line, b' ')?;
+    let Some((uri, token)) = cut_at(rest, b' ') else {
+        if rest.is_empty() {
+            return None;
+        }
+        return ask_at(moment, rest, None);
+    };
+    if cut_at(token, b' ').is_some() || uri.is_empty() || token.is_empty() {
         return None;
     }
-    let moment = read_number(moment, LAST_MOMENT)?;
-    Some(Ask { moment, uri })
+    ask_at(moment, uri, Some(token))
 }

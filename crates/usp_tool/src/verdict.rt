@@ -1,26 +1,20 @@
-// Rules and verdicts.
-use usp_uri::Uri;
+// The verdict on a request, by all rules.
+ghost use Rattle.std.specs.Prelude.{◌≡◌, ◌≤◌, ◌<◌, ◌+◌, ◌^◌, ◌++◌, ◌∷◌, [], List, IfOk, codes};
+ghost use Rattle.std.specs.Option.{unwrap_or};
+ghost use Rattle.usp_claims.specs.Table.{number_claim};
+ghost use Rattle.usp_nonce.specs.History.{Call, IsLegal, IsNext};
+ghost use Rattle.usp_nonce.specs.Stands.{StandsFor};
+ghost use Rattle.usp_rules.specs.Judging.{Judges};
+ghost use Rattle.usp_rules.specs.declared.judged.Judged.TheVariants.{Passed};
+ghost use Rattle.usp_tool.specs.Check.{Decides, IsCall, verdict_by, verdict_line};
 
-/// A rule that a request may break (RFC 9246 sections 2 and 3). They are tried in this order.
-#[derive(Clone, Copy, Debug, PartialEq, Eq)]
-pub enum Rule {
-    /// The URI has a normal form, its package still in it.
-    Uri,
-    /// The URI has a package.
-    Missing,
-    /// The package ends as it may, and what it brings is a token.
-    Package,
-    /// The token's header is one that is read (RFC 7515 section 4.1).
-    Header,
-    /// A key of the ring verifies the token.
-    Signature,
-    /// The payload is a claim set (RFC 9246 section 2.1).
-    Claims,
-    /// There is no expiry, or it is above the moment.
-    Expired,
-    /// The container meets the content.
-    Container,
-}
+use crate::answer::{NoMemory, push_number};
+use std::alloc::Global;
+use usp_claims::Claims;
+use usp_ext::Kit;
+use usp_nonce::{Answer, NonceTable, nonce_key};
+use usp_rules::{Ask, Judged, Profile, Rule, judge};
+use usp_uri::Uri;
 
 /// Whether a request is admitted, with its content, or which rule denies it.
 #[derive(Drop)]
@@ -28,4 +22,103 @@ pub enum Verdict {
     Admitted(Uri),
     /// The first rule that fails.
     Denied(Rule),
+}
+
+const FOR_GOOD: u64 = 9_007_199_254_740_992;
+
+// Until when a nonce is kept: `exp`, or for good without it.
+#[tactic(auto, using(crate::proofs::Deciding::claim_bound))]
+fn until_of(claims: &Claims) -> u64
+    ensures value { result ≡ unwrap_or (number_claim (codes "exp") claims.now) 9007199254740992 }
+    ensures bound { result ≤ 2 ^ 53 }
+{
+    match claims.exp() {
+        None => FOR_GOOD,
+        Some(exp) => exp,
+    }
+}
+
+fn verdict_by(content: Uri, answer: Answer) -> Verdict
+    ensures { result ≡ verdict_by content answer }
+{
+    match answer {
+        Answer::Taken => Verdict::Admitted(content),
+        Answer::Late => Verdict::Denied(Rule::Late),
+        Answer::Seen => Verdict::Denied(Rule::Seen),
+        Answer::Full => Verdict::Denied(Rule::Room),
+    }
+}
+
+// Rules 16 to 18, of a request that passes the others.
+fn decide_passed(
+    alloc: Global,
+    table: &mut NonceTable,
+    ask: &Ask<'_>,
+    content: Uri,
+    claims: &Claims,
+) -> Result<Verdict, NoMemory>
+    requires { table.old.calls < 2 ^ 62 }
+    ensures decided { (profile : Profile) (token : List ℕ) (key : ℕ) (before : List Call) → Judges profile ask.now (Passed content token claims.now key)
+        → StandsFor table.old before → IsLegal table.old.room before
+        → IfOk result (λ verdict. IsDecided profile table.old.room ask.now before verdict table.new) }
+    ensures calls { table.new.calls ≤ table.old.calls + 1 }
+    ensures room { table.new.room ≡ table.old.room }
+{
+    let Some(jti) = claims.jti() else {
+        return Ok(Verdict::Admitted(content));
+    };
+    let Ok(key) = nonce_key(alloc, jti, content.text()) else {
+        return Err(NoMemory);
+    };
+    let turned = table.take(key, ask.moment(), until_of(claims));
+    Ok(verdict_by(content, turned.answer))
+}
+
+/// The verdict on a request. Where rules 1 to 15 hold and there is a `jti`, its nonce is asked of the table.
+pub fn decide(
+    alloc: Global,
+    kit: &Kit,
+    profile: &Profile,
+    table: &mut NonceTable,
+    ask: &Ask<'_>,
+) -> Result<Verdict, NoMemory>
+    requires { table.old.calls < 2 ^ 62 }
+    ensures decided { (before : List Call) → StandsFor table.old before → IsLegal table.old.room before
+        → IfOk result (λ verdict. IsDecided profile.now table.old.room ask.now before verdict table.new) }
+    ensures calls { table.new.calls ≤ table.old.calls + 1 }
+    ensures room { table.new.room ≡ table.old.room }
+{
+    match judge(alloc, kit, profile, ask) {
+        Ok(Judged::Denied(rule)) => Ok(Verdict::Denied(rule)),
+        Ok(Judged::Passed {
+            content, claims, ..
+        }) => decide_passed(alloc, table, ask, content, &claims),
+        Err(_) => Err(NoMemory),
+    }
+}
+
+/// Puts the line of a verdict behind a text.
+pub fn push_verdict(
+    alloc: Global,
+    text: &mut Vec<u8>,
+    number: u64,
+    verdict: &Verdict,
+) -> Result<(), NoMemory>
+    ensures { OnOk result (text.new.items ≡ text.old.items ++ verdict_line number verdict.now) }
+{
+    push_number(alloc, text, number)?;
+    match verdict {
+        Verdict::Admitted(content) => {
+            text.extend_from_slice(b" admitted ")?;
+            text.extend_from_slice(content.text())?;
+        }
+        Verdict::Denied(rule) => {
+            text.extend_from_slice(b" denied ")?;
+            push_number(alloc, text, rule.number())?;
+            text.push(b' ')?;
+            text.extend_from_slice(rule.name())?;
+        }
+    }
+    text.push(b'\n')?;
+    Ok(())
 }

@@ -1,6 +1,0 @@
-use Rattle.std.proofs.Common.{sym}
-use Rattle.usp_tool.proofs.Readings.{no_claims}
-use Rattle.usp_tool.proofs.judging.claims_of.Goals as goal
-
-pub returns : goal.returns
-returns c = no_claims c.in-Err.fault c.args.payload.now c.in-Err.ensures.refused (sym c.if-claims_want_memory.ensures)
