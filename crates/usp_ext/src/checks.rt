@@ -1,0 +1,147 @@
+// The five tests as plain functions, from which a caller makes its kit.
+ghost use Rattle.std.specs.Prelude.{◌≡◌};
+ghost use Rattle.std.specs.List.{list_all, list_any};
+ghost use Rattle.std.specs.Option.{option_copied};
+ghost use Rattle.usp_ext.specs.Values.{text_in, number_in, is_text, is_this, begins, is_number_up_to};
+ghost use Rattle.usp_ext.specs.Tests.{means, is_text_of};
+ghost use Rattle.usp_ext.specs.declared.kinds.TestKind.{TestKind};
+
+use crate::Setting;
+use usp_base::{after_prefix, read_number};
+use usp_json::{Items, Json};
+
+pub(crate) const LAST_NUMBER: u64 = 9_007_199_254_740_991;
+
+// The text that a value is.
+fn text_in(value: &Json) -> Option<&[u8]>
+    ensures { option_copied result ≡ text_in value.now }
+{
+    match value {
+        Json::Str(text) => Some(text.text().as_bytes()),
+        _ => None,
+    }
+}
+
+// The whole number, spelled with digits alone and at most 2^53 - 1, that a value is.
+fn number_in(value: &Json) -> Option<u64>
+    ensures { result ≡ number_in value.now }
+{
+    match value {
+        Json::Num(number) => read_number(number.text(), LAST_NUMBER),
+        _ => None,
+    }
+}
+
+fn is_text(value: &Json) -> bool
+    ensures { result ≡ is_text value.now }
+{
+    text_in(value).is_some()
+}
+
+fn is_this(value: &Json, text: &[u8]) -> bool
+    ensures { result ≡ is_this text.now value.now }
+{
+    match text_in(value) {
+        None => false,
+        Some(other) => other == text,
+    }
+}
+
+// Whether the value is a text with which the path begins.
+fn begins(value: &Json, path: &[u8]) -> bool
+    ensures { result ≡ begins path.now value.now }
+{
+    match text_in(value) {
+        None => false,
+        Some(text) => path.starts_with(text),
+    }
+}
+
+// Whether the value is such a number, at most that.
+fn is_number_up_to(value: &Json, most: u64) -> bool
+    ensures { result ≡ is_number_up_to most value.now }
+{
+    match number_in(value) {
+        None => false,
+        Some(number) => number <= most,
+    }
+}
+
+fn are_texts(items: &Items) -> bool
+    ensures { result ≡ list_all is_text items.now.values }
+{
+    for place in 0..items.len() {
+        if !is_text(items.at(place)) {
+            return false;
+        }
+    }
+    true
+}
+
+fn has_text(items: &Items, text: &[u8]) -> bool
+    ensures { result ≡ list_any (is_this text.now) items.now.values }
+{
+    for place in 0..items.len() {
+        if is_this(items.at(place), text) {
+            return true;
+        }
+    }
+    false
+}
+
+// Whether the value is a text of the list, which has texts alone.
+fn is_text_of(items: &Items, value: &Json) -> bool
+    ensures { result ≡ is_text_of items.now.values value.now }
+{
+    match text_in(value) {
+        None => false,
+        Some(text) => are_texts(items) && has_text(items, text),
+    }
+}
+
+/// The test `Any`.
+pub fn is_any(setting: &Setting, value: &Json, path: &[u8], _moment: u64) -> bool
+    ensures { result ≡ means TestKind.Any setting.now value.now path.now }
+{
+    matches!(setting, Setting::Nothing)
+}
+
+/// The test `Equals`.
+pub fn equals(setting: &Setting, value: &Json, path: &[u8], _moment: u64) -> bool
+    ensures { result ≡ means TestKind.Equals setting.now value.now path.now }
+{
+    match setting {
+        Setting::Words(text) => is_this(value, text.text().as_bytes()),
+        _ => false,
+    }
+}
+
+/// The test `OneOf`.
+pub fn is_one_of(setting: &Setting, value: &Json, path: &[u8], _moment: u64) -> bool
+    ensures { result ≡ means TestKind.OneOf setting.now value.now path.now }
+{
+    match setting {
+        Setting::Several(items) => is_text_of(items, value),
+        _ => false,
+    }
+}
+
+/// The test `AtMost`.
+pub fn is_at_most(setting: &Setting, value: &Json, path: &[u8], _moment: u64) -> bool
+    ensures { result ≡ means TestKind.AtMost setting.now value.now path.now }
+{
+    match setting {
+        Setting::Number(most) => is_number_up_to(value, *most),
+        _ => false,
+    }
+}
+
+/// The test `PathPrefix`.
+pub fn is_path_prefix(setting: &Setting, value: &Json, path: &[u8], _moment: u64) -> bool
+    ensures { result ≡ means TestKind.PathPrefix setting.now value.now path.now }
+{
+    match setting {
+        Setting::Nothing => begins(value, path),
+        _ => false,
+    }
+}

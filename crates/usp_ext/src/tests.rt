@@ -1,0 +1,123 @@
+// What the tests of claims answer, and which claims may be added.
+use crate::{
+    ExtFault, Extensions, Facts, Kit, Setting, TestKind, equals, is_any, is_at_most, is_one_of,
+    is_path_prefix,
+};
+use std::alloc::Global;
+use std::test::Fail;
+use usp_json::{Items, Json, Text, read_members};
+
+// Texts as the setting of a list.
+fn several(alloc: Global, texts: &[&str]) -> Result<Items, Fail> {
+    let mut items = Items::new(alloc);
+    for text in texts {
+        items.push(Json::Str(Text::of(alloc, *text)?))?;
+    }
+    Ok(items)
+}
+
+// Each kind with its shape of setting, and with another.
+fn fill(alloc: Global, extensions: &mut Extensions) -> Result<(), Fail> {
+    let mut mixed = several(alloc, &["a"])?;
+    mixed.push(Json::Null)?;
+    let words = Text::of(alloc, "a")?;
+    let rows = [
+        ("any", TestKind::Any, Setting::Nothing),
+        ("equals", TestKind::Equals, Setting::Words(words)),
+        (
+            "one_of",
+            TestKind::OneOf,
+            Setting::Several(several(alloc, &["a", "b"])?),
+        ),
+        ("at_most", TestKind::AtMost, Setting::Number(10)),
+        ("path_prefix", TestKind::PathPrefix, Setting::Nothing),
+        ("any 1", TestKind::Any, Setting::Number(1)),
+        ("equals null", TestKind::Equals, Setting::Nothing),
+        ("one_of mixed", TestKind::OneOf, Setting::Several(mixed)),
+        ("at_most null", TestKind::AtMost, Setting::Nothing),
+        ("path_prefix 1", TestKind::PathPrefix, Setting::Number(1)),
+    ];
+    for (claim, kind, setting) in rows {
+        extensions.push(Text::of(alloc, claim)?, kind, setting)?;
+    }
+    Ok(())
+}
+
+// What the test of the claim answers for the member `v`.
+fn answer(
+    alloc: Global,
+    extensions: &Extensions,
+    claim: &str,
+    members: &[u8],
+) -> Result<Option<bool>, Fail> {
+    let members = read_members(alloc, members)?;
+    let facts = Facts {
+        path: b"/vx",
+        moment: 50,
+    };
+    Ok(match members.find(b"v") {
+        None => None,
+        Some(value) => extensions.holds(claim.as_bytes(), value, &facts),
+    })
+}
+
+#[test]
+fn each_test_passes_what_its_kind_means(rt: HostRuntime) -> Result<(), Fail> {
+    let alloc = rt.alloc();
+    let kit = Kit::new(is_any, equals, is_one_of, is_at_most, is_path_prefix);
+    let mut extensions = Extensions::empty(alloc, kit);
+    fill(alloc, &mut extensions)?;
+    let rows: [(&str, &[u8], Option<bool>); 27] = [
+        ("any", b"{\"v\":null}", Some(true)),
+        ("any", b"{\"v\":[1]}", Some(true)),
+        ("any 1", b"{\"v\":null}", Some(false)),
+        ("equals", b"{\"v\":\"a\"}", Some(true)),
+        ("equals", b"{\"v\":\"\\u0061\"}", Some(true)),
+        ("equals", b"{\"v\":\"ab\"}", Some(false)),
+        ("equals", b"{\"v\":[\"a\"]}", Some(false)),
+        ("equals null", b"{\"v\":null}", Some(false)),
+        ("one_of", b"{\"v\":\"b\"}", Some(true)),
+        ("one_of", b"{\"v\":\"c\"}", Some(false)),
+        ("one_of", b"{\"v\":[\"b\"]}", Some(false)),
+        ("one_of mixed", b"{\"v\":\"a\"}", Some(false)),
+        ("at_most", b"{\"v\":10}", Some(true)),
+        ("at_most", b"{\"v\":0}", Some(true)),
+        ("at_most", b"{\"v\":11}", Some(false)),
+        ("at_most", b"{\"v\":1e1}", Some(false)),
+        ("at_most", b"{\"v\":1.0}", Some(false)),
+        ("at_most", b"{\"v\":-1}", Some(false)),
+        ("at_most", b"{\"v\":\"10\"}", Some(false)),
+        ("at_most null", b"{\"v\":0}", Some(false)),
+        ("path_prefix", b"{\"v\":\"/v\"}", Some(true)),
+        ("path_prefix", b"{\"v\":\"\"}", Some(true)),
+        ("path_prefix", b"{\"v\":\"/w\"}", Some(false)),
+        ("path_prefix", b"{\"v\":\"/vxy\"}", Some(false)),
+        ("path_prefix 1", b"{\"v\":\"/v\"}", Some(false)),
+        ("y", b"{\"v\":null}", None),
+        ("ANY", b"{\"v\":null}", None),
+    ];
+    for (claim, members, expected) in rows {
+        assert_eq!(rt; answer(alloc, &extensions, claim, members)?, expected);
+    }
+    Ok(())
+}
+
+#[test]
+fn a_claim_has_one_test(rt: HostRuntime) -> Result<(), Fail> {
+    let alloc = rt.alloc();
+    let kit = Kit::new(is_any, equals, is_one_of, is_at_most, is_path_prefix);
+    let mut extensions = Extensions::empty(alloc, kit);
+    let rows = [
+        ("x", Ok(()), 1),
+        ("x", Err(ExtFault::Repeat), 1),
+        ("", Ok(()), 2),
+        ("y", Ok(()), 3),
+        ("", Err(ExtFault::Repeat), 3),
+    ];
+    for (claim, expected, count) in rows {
+        let added = extensions.push(Text::of(alloc, claim)?, TestKind::Any, Setting::Nothing);
+        assert_eq!(rt; added, expected);
+        assert_eq!(rt; extensions.listed().len(), count);
+    }
+    Ok(())
+}
