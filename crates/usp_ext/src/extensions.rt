@@ -6,7 +6,6 @@ ghost use Rattle.usp_ext.specs.Listed.{is_of, is_listed, listed_of, means_of, ex
 
 use crate::{Extension, Kit, Setting, TestKind};
 use std::alloc::Global;
-use std::marker::Model;
 use usp_json::{Json, Text};
 
 /// Why an extension is not added.
@@ -19,6 +18,7 @@ pub enum ExtFault {
 }
 
 /// What a test is asked beside the value.
+#[derive(Clone, Copy, Debug)]
 pub struct Facts<'a> {
     /// The path of the content.
     pub path: &'a [u8],
@@ -26,29 +26,10 @@ pub struct Facts<'a> {
     pub moment: u64,
 }
 
-/// Claims, each with its test, in their order, which contracts see as that list.
-#[derive(Drop)]
-pub struct Listed {
-    rows: Vec<Extension>,
-}
-
-impl Model for Listed {
-    ghost use Rattle.std.specs.Prelude.{List};
-    ghost use Rattle.std.specs.Coded.{codes};
-    ghost use Rattle.usp_json.specs.contracts.value.Items as e;
-    ghost use Rattle.usp_ext.specs.declared.kinds.Extension.{Extension};
-
-    ghost Value = { List Extension };
-
-    ghost coded = { Prim.hlevel (codes, e.the_row.coded) };
-
-    ghost view = { λ l. l.rows.items };
-}
-
-/// The claims that have a test. Contracts see the list; nothing is said of the kit but what its type keeps.
+/// Claims, each with its test. Contracts see them in their order, without the kit.
 #[derive(Drop)]
 pub struct Extensions {
-    listed: Listed,
+    listed: Vec<Extension>,
     kit: Kit,
 }
 
@@ -66,65 +47,64 @@ fn listed_of<'a>(listed: &'a [Extension], claim: &[u8]) -> Option<&'a Extension>
     listed.iter().find(|extension| is_of(*extension, claim))
 }
 
-impl Listed {
-    // Adds a claim at the end. Where it is refused, it is dropped.
-    fn push(&mut self, extension: Extension) -> Result<(), ExtFault>
-        ensures added { OnOk result (self.new ≡ self.old ++ extension ∷ []) }
-        ensures fresh { OnOk result (is_listed extension.claim self.old ≡ false) }
-        ensures refused { IfErr result (λ fault. RefusesExtension fault extension.claim self.old) }
-        ensures unchanged { OnErr result (self.new ≡ self.old) }
-    {
-        if listed_of(&self.rows, extension.claim.text().as_bytes()).is_some() {
-            return Err(ExtFault::Repeat);
-        }
-        match self.rows.push(extension) {
-            Ok(()) => Ok(()),
-            Err(_) => Err(ExtFault::NoMemory),
-        }
+// Adds an extension at the end. Where it is refused, it is dropped.
+fn add(listed: &mut Vec<Extension>, extension: Extension) -> Result<(), ExtFault>
+    ensures added { OnOk result (listed.new.items ≡ listed.old.items ++ extension ∷ []) }
+    ensures fresh { OnOk result (is_listed extension.claim listed.old.items ≡ false) }
+    ensures refused { IfErr result (λ fault. RefusesExtension fault extension.claim listed.old.items) }
+    ensures unchanged { OnErr result (listed.new.items ≡ listed.old.items) }
+{
+    if listed_of(listed, extension.claim.text().as_bytes()).is_some() {
+        return Err(ExtFault::Repeat);
+    }
+    match listed.push(extension) {
+        Ok(()) => Ok(()),
+        Err(_) => Err(ExtFault::NoMemory),
     }
 }
 
 impl Extensions {
     /// No claims, and the tests that those added later are given to. What is added takes its memory from `alloc`.
     pub fn empty(alloc: Global, kit: Kit) -> Extensions
-        ensures { result.listed ≡ [] }
+        ensures { result.listed.items ≡ [] }
     {
         Extensions {
-            listed: Listed {
-                rows: Vec::new(alloc),
-            },
+            listed: Vec::new(alloc),
             kit,
         }
     }
 
     /// The claims in their order.
     pub fn listed(&self) -> &[Extension]
-        ensures { result.now ≡ self.now.listed }
+        ensures { result.now ≡ self.now.listed.items }
     {
-        &self.listed.rows
+        &self.listed
     }
 
     /// Adds a claim at the end. Where it is refused, it is dropped.
     pub fn push(&mut self, claim: Text, kind: TestKind, setting: Setting) -> Result<(), ExtFault>
-        ensures added { OnOk result (self.new.listed ≡ self.old.listed ++ extension claim kind setting ∷ []) }
-        ensures fresh { OnOk result (is_listed claim self.old.listed ≡ false) }
-        ensures refused { IfErr result (λ fault. RefusesExtension fault claim self.old.listed) }
-        ensures unchanged { OnErr result (self.new.listed ≡ self.old.listed) }
+        ensures added { OnOk result (self.new.listed.items ≡ self.old.listed.items ++ extension claim kind setting ∷ []) }
+        ensures fresh { OnOk result (is_listed claim self.old.listed.items ≡ false) }
+        ensures refused { IfErr result (λ fault. RefusesExtension fault claim self.old.listed.items) }
+        ensures unchanged { OnErr result (self.new.listed.items ≡ self.old.listed.items) }
     {
-        self.listed.push(Extension {
-            claim,
-            kind,
-            setting,
-        })
+        add(
+            &mut self.listed,
+            Extension {
+                claim,
+                kind,
+                setting,
+            },
+        )
     }
 
     /// Whether the value of that claim passes its test. None exactly where the claim has none. It takes
     /// no memory.
     pub fn holds(&self, claim: &[u8], value: &Json, facts: &Facts<'_>) -> Option<bool>
         requires { facts.now.moment < 2 ^ 52 }
-        ensures { result ≡ means_of self.now.listed claim.now value.now facts.now.path.now }
+        ensures { result ≡ means_of self.now.listed.items claim.now value.now facts.now.path.now }
     {
-        let extension = listed_of(&self.listed.rows, claim)?;
+        let extension = listed_of(&self.listed, claim)?;
         Some(
             self.kit.answer(
                 extension.kind,

@@ -9,6 +9,6 @@ mod kit;
 mod tests;
 
 pub use checks::{equals, is_any, is_at_most, is_one_of, is_path_prefix};
-pub use extensions::{ExtFault, Extensions, Facts, Listed};
+pub use extensions::{ExtFault, Extensions, Facts};
 pub use kinds::{Extension, Setting, TestKind};
 pub use kit::{Kit, TestFn};

@@ -1,4 +1,4 @@
-use Rattle.std.proofs.Common.{◌≡◌, ◌∙◌, sym}
+use Rattle.std.proofs.Common.{◌∙◌, sym}
 use Rattle.usp_ext.specs.Values.{is_text}
 use Rattle.usp_ext.proofs.Lists.{all_stops, all_goes}
 use Rattle.usp_ext.proofs.checks.are_texts.Goals as goal

@@ -1,4 +1,4 @@
-use Rattle.std.proofs.Common.{◌≡◌, ◌∙◌, sym}
+use Rattle.std.proofs.Common.{◌∙◌, sym}
 use Rattle.usp_ext.specs.Values.{is_this}
 use Rattle.usp_ext.proofs.Lists.{any_stops, any_goes}
 use Rattle.usp_ext.proofs.checks.has_text.Goals as goal
