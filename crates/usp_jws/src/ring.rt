@@ -1,5 +1,5 @@
 // The keys that a token may be sealed with.
-ghost use Rattle.std.specs.Prelude.{◌≡◌, ◌≤◌, IfOk, IfErr, position};
+ghost use Rattle.std.specs.Prelude.{◌≡◌, ◌≤◌, None, IfOk, IfErr, position};
 ghost use Rattle.std.specs.Option.{option_copied};
 ghost use Rattle.usp_jws.specs.Base64url.{b64u};
 ghost use Rattle.usp_jws.specs.Hmac.{hmac};
@@ -132,6 +132,7 @@ impl Ring {
     /// Takes the keys, and gives them up where it refuses them. It takes no memory.
     pub fn new(keys: Vec<Key>) -> Result<Ring, RingFault>
         ensures ok { IfOk result (λ ring. ring ≡ keys.items) }
+        ensures apart { IfOk result (λ ring. first_repeat ring ≡ None) }
         ensures refused { IfErr result (λ e. RefusesRing e keys.items) }
     {
         if keys.is_empty() {
