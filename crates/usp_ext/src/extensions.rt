@@ -6,6 +6,7 @@ ghost use Rattle.usp_ext.specs.Listed.{is_of, is_listed, listed_of, means_of, ex
 
 use crate::{Extension, Kit, Setting, TestKind};
 use std::alloc::Global;
+use std::marker::Model;
 use usp_json::{Json, Text};
 
 /// Why an extension is not added.
@@ -26,11 +27,23 @@ pub struct Facts<'a> {
     pub moment: u64,
 }
 
-/// Claims, each with its test. Contracts see them in their order, without the kit.
+/// Claims, each with the kind and the setting of its test. Contracts see them in their order.
 #[derive(Drop)]
 pub struct Extensions {
     listed: Vec<Extension>,
-    kit: Kit,
+}
+
+impl Model for Extensions {
+    ghost use Rattle.std.specs.Prelude.{List};
+    ghost use Rattle.std.specs.Coded.{codes};
+    ghost use Rattle.usp_json.specs.contracts.value.Json as e;
+    ghost use Rattle.usp_ext.specs.declared.kinds.Extension.{Extension};
+
+    ghost Value = { List Extension };
+
+    ghost coded = { Prim.hlevel (codes, e.the_row.coded) };
+
+    ghost view = { λ e. e.listed.items };
 }
 
 // Whether the extension is of that claim.
@@ -64,29 +77,28 @@ fn add(listed: &mut Vec<Extension>, extension: Extension) -> Result<(), ExtFault
 }
 
 impl Extensions {
-    /// No claims, and the tests that those added later are given to. What is added takes its memory from `alloc`.
-    pub fn empty(alloc: Global, kit: Kit) -> Extensions
-        ensures { result.listed.items ≡ [] }
+    /// No claims. What is added takes its memory from `alloc`.
+    pub fn empty(alloc: Global) -> Extensions
+        ensures { result ≡ [] }
     {
         Extensions {
             listed: Vec::new(alloc),
-            kit,
         }
     }
 
     /// The claims in their order.
     pub fn listed(&self) -> &[Extension]
-        ensures { result.now ≡ self.now.listed.items }
+        ensures { result.now ≡ self.now }
     {
         &self.listed
     }
 
     /// Adds a claim at the end. Where it is refused, it is dropped.
     pub fn push(&mut self, claim: Text, kind: TestKind, setting: Setting) -> Result<(), ExtFault>
-        ensures added { OnOk result (self.new.listed.items ≡ self.old.listed.items ++ extension claim kind setting ∷ []) }
-        ensures fresh { OnOk result (is_listed claim self.old.listed.items ≡ false) }
-        ensures refused { IfErr result (λ fault. RefusesExtension fault claim self.old.listed.items) }
-        ensures unchanged { OnErr result (self.new.listed.items ≡ self.old.listed.items) }
+        ensures added { OnOk result (self.new ≡ self.old ++ extension claim kind setting ∷ []) }
+        ensures fresh { OnOk result (is_listed claim self.old ≡ false) }
+        ensures refused { IfErr result (λ fault. RefusesExtension fault claim self.old) }
+        ensures unchanged { OnErr result (self.new ≡ self.old) }
     {
         add(
             &mut self.listed,
@@ -98,15 +110,21 @@ impl Extensions {
         )
     }
 
-    /// Whether the value of that claim passes its test. None exactly where the claim has none. It takes
-    /// no memory.
-    pub fn holds(&self, claim: &[u8], value: &Json, facts: &Facts<'_>) -> Option<bool>
+    /// Whether the value of that claim passes its test, by the kit's function of that kind. None exactly
+    /// where the claim has none. It takes no memory.
+    pub fn holds(
+        &self,
+        kit: &Kit,
+        claim: &[u8],
+        value: &Json,
+        facts: &Facts<'_>,
+    ) -> Option<bool>
         requires { facts.now.moment < 2 ^ 52 }
-        ensures { result ≡ means_of self.now.listed.items claim.now value.now facts.now.path.now }
+        ensures { result ≡ means_of self.now claim.now value.now facts.now.path.now }
     {
         let extension = listed_of(&self.listed, claim)?;
         Some(
-            self.kit.answer(
+            kit.answer(
                 extension.kind,
                 &extension.setting,
                 value,

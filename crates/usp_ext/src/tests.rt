@@ -46,6 +46,7 @@ fn fill(alloc: Global, extensions: &mut Extensions) -> Result<(), Fail> {
 // What the test of the claim answers for the member `v`.
 fn answer(
     alloc: Global,
+    kit: &Kit,
     extensions: &Extensions,
     claim: &str,
     members: &[u8],
@@ -57,7 +58,7 @@ fn answer(
     };
     Ok(match members.find(b"v") {
         None => None,
-        Some(value) => extensions.holds(claim.as_bytes(), value, &facts),
+        Some(value) => extensions.holds(kit, claim.as_bytes(), value, &facts),
     })
 }
 
@@ -65,7 +66,7 @@ fn answer(
 fn each_test_passes_what_its_kind_means(rt: HostRuntime) -> Result<(), Fail> {
     let alloc = rt.alloc();
     let kit = Kit::new(is_any, equals, is_one_of, is_at_most, is_path_prefix);
-    let mut extensions = Extensions::empty(alloc, kit);
+    let mut extensions = Extensions::empty(alloc);
     fill(alloc, &mut extensions)?;
     let rows: [(&str, &[u8], Option<bool>); 27] = [
         ("any", b"{\"v\":null}", Some(true)),
@@ -97,7 +98,7 @@ fn each_test_passes_what_its_kind_means(rt: HostRuntime) -> Result<(), Fail> {
         ("ANY", b"{\"v\":null}", None),
     ];
     for (claim, members, expected) in rows {
-        assert_eq!(rt; answer(alloc, &extensions, claim, members)?, expected);
+        assert_eq!(rt; answer(alloc, &kit, &extensions, claim, members)?, expected);
     }
     Ok(())
 }
@@ -105,8 +106,7 @@ fn each_test_passes_what_its_kind_means(rt: HostRuntime) -> Result<(), Fail> {
 #[test]
 fn a_claim_has_one_test(rt: HostRuntime) -> Result<(), Fail> {
     let alloc = rt.alloc();
-    let kit = Kit::new(is_any, equals, is_one_of, is_at_most, is_path_prefix);
-    let mut extensions = Extensions::empty(alloc, kit);
+    let mut extensions = Extensions::empty(alloc);
     let rows = [
         ("x", Ok(()), 1),
         ("x", Err(ExtFault::Repeat), 1),

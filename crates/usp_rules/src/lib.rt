@@ -3,10 +3,12 @@
 
 mod container;
 mod fault;
+mod profile;
 mod segment;
 #[cfg(test)]
 mod tests;
 
 pub use container::Container;
 pub use fault::NoMemory;
+pub use profile::Profile;
 pub use segment::segment_of;
