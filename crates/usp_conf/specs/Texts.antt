@@ -1,12 +1,12 @@
 -- Members that are texts and numbers.
-use Rattle.std.specs.Prelude.{ℕ, Bool, true, ◌&&◌, ◌||◌, nat_le, List, codes, Option, Some, None, Result, Ok, Err, if◌then◌else◌}
+use Rattle.std.specs.Prelude.{ℕ, Bool, true, ◌&&◌, nat_le, List, codes, Option, Some, None, Result, Ok, Err, if◌then◌else◌}
 use Rattle.std.specs.Option.{option_map_or}
-use Rattle.std.specs.Str.{bytes_eq}
 use Rattle.serde_json.specs.Data.{Data, Num, unsigned, negative, float}
 use Rattle.serde_json.specs.Find.{get, as_str, as_number, as_bool}
 use Rattle.usp_jws.specs.Letters.{is_identity}
 use Rattle.usp_package.specs.Name.{is_attr_name}
 use Rattle.usp_conf.specs.Answers.{and_then}
+use Rattle.usp_conf.specs.Letters.{is_scheme}
 use Rattle.usp_conf.specs.Members.{name_of}
 use Rattle.usp_conf.specs.declared.fault.ConfFault.{ConfFault}
 use Rattle.usp_conf.specs.declared.fault.ConfFault.TheVariants as fault
@@ -31,9 +31,6 @@ tested of test value = and_then (text_of of value) (λ text. if test text then O
 
 abbrev pub identity_of : Member → Data → Result (List ℕ) ConfFault
 identity_of of = tested of is_identity
-
-abbrev pub is_scheme : List ℕ → Bool
-is_scheme text = bytes_eq text (codes "http") || bytes_eq text (codes "https")
 
 -- the edge, its scheme, and the name of the attribute
 abbrev pub edge_of : Data → Result (List ℕ) ConfFault

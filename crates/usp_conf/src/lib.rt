@@ -2,12 +2,17 @@
 #![tactic(auto)]
 
 mod claims;
+mod conf;
 mod fault;
 mod keys;
 mod lists;
 mod member;
+mod parts;
+mod reading;
 mod routes;
 mod texts;
 
+pub use conf::Conf;
 pub use fault::ConfFault;
 pub use member::Member;
+pub use reading::read_conf;

@@ -5,8 +5,9 @@ ghost use Rattle.serde_json.specs.Find.{get};
 ghost use Rattle.serde_json.specs.View.{view};
 ghost use Rattle.usp_jws.specs.Letters.{is_identity};
 ghost use Rattle.usp_conf.specs.Answers.{Gives};
+ghost use Rattle.usp_conf.specs.Letters.{is_scheme};
 ghost use Rattle.usp_conf.specs.Members.{name_of};
-ghost use Rattle.usp_conf.specs.Texts.{text_of, identity_of, is_scheme, edge_of, scheme_of, attribute_of, attribute_value, number_of, room_of, enforce_value, enforce_of, scheme_value};
+ghost use Rattle.usp_conf.specs.Texts.{text_of, identity_of, edge_of, scheme_of, attribute_of, attribute_value, number_of, room_of, enforce_value, enforce_of, scheme_value};
 
 use crate::{ConfFault, Member};
 use serde_json::Value;

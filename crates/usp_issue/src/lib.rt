@@ -1,4 +1,4 @@
-//! Renewal and signing again: what an edge gives out.
+//! What an edge signs with, and where it sends requests on.
 #![tactic(auto)]
 
 mod route;

@@ -1,8 +1,9 @@
 // An edge: what it judges by, its own key, and its routes.
 ghost use Rattle.std.specs.Prelude.{◌≡◌, ◌<◌, ◌≤◌, true, length};
-ghost use Rattle.usp_issue.specs.Sites.{is_own};
+ghost use Rattle.usp_issue.specs.Sites.{is_own, site};
 
 use crate::Route;
+use std::marker::Model;
 use usp_base::Rows;
 use usp_rules::Profile;
 
@@ -12,9 +13,20 @@ pub struct Site {
     profile: Profile,
     sign: usize,
     routes: Rows<Route>,
-    ghost within: { sign < length profile.ring },
-    ghost own: { is_own profile.ring profile.issuers sign ≡ true },
-    ghost few: { length routes ≤ 16 },
+}
+
+impl Model for Site {
+    ghost use Rattle.std.specs.Coded.{codes};
+    ghost use Rattle.usp_json.specs.contracts.value.Json as e;
+    ghost use Rattle.usp_issue.specs.Sites.{SiteValue, IsSite, site};
+
+    ghost Value = { SiteValue };
+
+    ghost coded = { Prim.hlevel (codes, e.the_row.coded) };
+
+    ghost view = { λ s. site s.profile s.sign s.routes };
+
+    ghost invariant = { λ s. IsSite (site s.profile s.sign s.routes) };
 }
 
 impl Site {
@@ -22,9 +34,7 @@ impl Site {
         requires within { sign < length profile.ring }
         requires own { is_own profile.ring profile.issuers sign ≡ true }
         requires few { length routes ≤ 16 }
-        ensures profile { result.profile ≡ profile }
-        ensures sign { result.sign ≡ sign }
-        ensures routes { result.routes ≡ routes }
+        ensures { result ≡ site profile sign routes }
     {
         Site {
             profile,
@@ -43,8 +53,8 @@ impl Site {
     /// The place of the edge's own key in the ring.
     pub fn sign(&self) -> usize
         ensures value { result ≡ self.now.sign }
-        ensures within { result < length self.now.profile.ring }
-        ensures own { is_own self.now.profile.ring self.now.profile.issuers result ≡ true }
+        ensures within { self.now.sign < length self.now.profile.ring }
+        ensures own { is_own self.now.profile.ring self.now.profile.issuers self.now.sign ≡ true }
     {
         self.sign
     }
@@ -52,7 +62,7 @@ impl Site {
     /// The routes, in the order in which they are tried.
     pub fn routes(&self) -> &Rows<Route>
         ensures value { result.now ≡ self.now.routes }
-        ensures few { length result.now ≤ 16 }
+        ensures few { length self.now.routes ≤ 16 }
     {
         &self.routes
     }
