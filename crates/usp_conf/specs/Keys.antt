@@ -68,7 +68,7 @@ keys_of = required member.Keys keys_value
 abbrev pub place_of : List KeyValue → List (List ℕ) → List ℕ → Result ℕ ConfFault
 place_of keys issuers kid =
     option_map_or (λ place. if is_own keys issuers place then Ok place else Err (fault.Range member.SignKid))
-        (position (λ key. bytes_eq key.kid kid) keys) (Err (fault.Range member.SignKid))
+    (position (λ key. bytes_eq key.kid kid) keys) (Err (fault.Range member.SignKid))
 
 abbrev pub sign_value : List KeyValue → List (List ℕ) → Data → Result ℕ ConfFault
 sign_value keys issuers value = and_then (text_of member.SignKid value) (place_of keys issuers)

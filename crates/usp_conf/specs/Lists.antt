@@ -26,7 +26,7 @@ has_length least most items = nat_le least (count items) && nat_le (count items)
 abbrev pub rows_of : {A : Type 0} → Member → ℕ → ℕ → (Data → Result A ConfFault) → Data → Result (List A) ConfFault
 rows_of of least most read value =
     option_map_or (λ items. if has_length least most items then each read items else Err (fault.Range of))
-        (as_array value) (Err (fault.Kind of))
+    (as_array value) (Err (fault.Kind of))
 
 -- an element that must be an object
 abbrev pub object_of : {A : Type 0} → Member → (Data → Result A ConfFault) → Data → Result A ConfFault

@@ -8,7 +8,6 @@ ghost use Rattle.usp_jws.specs.Keys.{first_repeat};
 ghost use Rattle.usp_jws.specs.Letters.{is_kid, is_identity};
 ghost use Rattle.usp_issue.specs.Sites.{has_issuer, is_own};
 ghost use Rattle.usp_conf.specs.Answers.{Gives};
-
 ghost use Rattle.usp_conf.specs.Keys.{decoded, sized, secret_bytes, secret_value, secret_of, key, kid_value, kid_of, issuer_of, key_in, apart, keys_value, keys_of, place_of, sign_value, sign_of};
 ghost use Rattle.usp_conf.specs.declared.fault.ConfFault.TheVariants as fault;
 
@@ -197,7 +196,9 @@ fn named(keys: &[Key], kid: &[u8]) -> Option<usize>
 fn has_issuer(issuers: &[Text], issuer: &[u8]) -> bool
     ensures { result ≡ has_issuer issuers.now issuer.now }
 {
-    issuers.iter().any(|other| other.text().as_bytes() == issuer)
+    issuers
+        .iter()
+        .any(|other| other.text().as_bytes() == issuer)
 }
 
 // Whether there is a key at that place whose issuer is one of the issuers.

@@ -118,11 +118,7 @@ pub(crate) fn rows_of<E: Element>(
     }
 }
 
-fn identities_value(
-    alloc: Global,
-    list: Member,
-    value: &Value,
-) -> Result<Rows<Text>, ConfFault>
+fn identities_value(alloc: Global, list: Member, value: &Value) -> Result<Rows<Text>, ConfFault>
     ensures { Gives result (rows_of list 0 64 (identity_of list) (view value.now)) }
 {
     let listed = rows_of(alloc, list, 0, 64, value)?;
