@@ -114,13 +114,16 @@ impl Key {
     }
 }
 
-fn is_kid(kid: &[u8]) -> bool
+/// Whether a text is the name of a key: 1 to 64 letters, digits, `-`, `.` and `_`.
+pub fn is_kid(kid: &[u8]) -> bool
     ensures { result ≡ is_kid kid.now }
 {
     1 <= kid.len() && kid.len() <= 64 && has_kid_letters(kid)
 }
 
-fn is_identity(text: &[u8]) -> bool
+/// Whether a text names an issuer or an edge: 1 to 128 printable ASCII characters without space, `"` and
+/// `\`.
+pub fn is_identity(text: &[u8]) -> bool
     ensures { result ≡ is_identity text.now }
 {
     1 <= text.len() && text.len() <= 128 && has_identity_bytes(text)

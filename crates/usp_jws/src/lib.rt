@@ -17,7 +17,7 @@ pub use base64url::is_base64url;
 pub use fault::NoMemory;
 pub use header::{Header, HeaderFault, read_header};
 pub use hmac::mac;
-pub use key::{Key, KeyFault};
+pub use key::{Key, KeyFault, is_identity, is_kid};
 pub use laws::{
     exactly_one, refused_are_no_headers, refused_are_no_tokens, sealed_is_read, sealed_verifies,
     tokens_have_letters,

@@ -1,0 +1,4 @@
+pub mod Each
+pub mod Named
+pub mod Refused
+pub mod Whole

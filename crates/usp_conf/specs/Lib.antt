@@ -1,0 +1,11 @@
+pub mod Answers
+pub mod Letters
+pub mod Values
+pub mod Members
+pub mod Texts
+pub mod Lists
+pub mod Keys
+pub mod Claims
+pub mod Routes
+pub mod Conf
+pub mod Readings

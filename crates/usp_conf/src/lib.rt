@@ -1,0 +1,22 @@
+//! The configuration of an edge, a JSON object of rows that are tried in their order.
+#![tactic(auto)]
+
+mod claims;
+mod conf;
+mod fault;
+mod keys;
+mod laws;
+mod lists;
+mod member;
+mod parts;
+mod reading;
+mod routes;
+#[cfg(test)]
+mod tests;
+mod texts;
+
+pub use conf::Conf;
+pub use fault::ConfFault;
+pub use laws::{configures_once, refused_are_no_configurations};
+pub use member::Member;
+pub use reading::read_conf;
