@@ -1,134 +1,121 @@
 -- An input that is told, against what was read of it, and what the last put leaves.
-use Rattle.std.proofs.Common.{◌≡◌, ℕ, ◌<◌, ◌≤◌, ◌⊎◌, Bool, true, false, nat_lt, ◌==◌, codes, List, ◌++◌, length, Option, Some, None, IfSome, MatchBool, refl, sym, ap, ◌∙◌, subst, arith, inl, inr, length-append, append-nil}
+use Rattle.std.proofs.Common.{◌≡◌, ℕ, ◌<◌, ◌≤◌, ◌⊎◌, Bool, true, false, ◌||◌, nat_lt, codes, List, ◌++◌, length, Option, Some, None, IfSome, MatchBool, refl, sym, ap, ◌∙◌, subst, arith, inl, inr, length-append, append-nil}
 use Rattle.std.specs.Io.KnownBytes.{prepend_known, append_known, IsAtEnd}
+use Rattle.std.specs.List.{list_any}
 use Rattle.std.proofs.lemmas.Bool.{cases_lt}
 use borrow.Author.Tests.{lt-ltb, ltb-false}
 use Rattle.usp_base.specs.Outside.{Rose, file_of}
 use Rattle.usp_base.specs.declared.fault.Status.{Status}
 use Rattle.usp_base.specs.declared.fault.Status.TheVariants.{Done, Denials, Words, Refused, Outside, Memory}
-use Rattle.usp_tool.specs.Answer.{Outcome, Answers, AnswersAsk, AnswersSecret, nothing, outcome_of, refused}
-use Rattle.usp_tool.specs.Line.{AskValue, ask_of}
-use Rattle.usp_tool.specs.Run.{Around, Answered, ReadsWhole, Shows, Wrote}
-use Rattle.usp_tool.specs.declared.verdict.Verdict.{Verdict}
-use Rattle.usp_tool.specs.declared.verdict.Verdict.TheVariants.{Admitted, Denied}
+use Rattle.usp_conf.specs.Readings.{Configures}
+use Rattle.usp_conf.specs.Values.{ConfValue}
+use Rattle.usp_tool.specs.Answer.{Answers, LacksKey, Works, WorksInput, worked}
+use Rattle.usp_tool.specs.Lines.{is_long_input, is_long_line, lines_of}
+use Rattle.usp_tool.specs.Outcome.{IsOwn, Outcome, refused}
+use Rattle.usp_tool.specs.Run.{Around, Answered, ReadsWhole, Shows, ShowsWork, Worked, Wrote}
+use Rattle.usp_tool.specs.Words.{Command, conf_name}
+
+long_is : (input : List ℕ) → 16777216 < length input → is_long_input input ≡ true
+long_is input lt = ap (λ b. b || list_any is_long_line (lines_of input)) (lt-ltb _ _ lt)
 
 -- two inputs that are too long have one outcome
-both_long : (secret : Option (List ℕ)) (a b : List ℕ) (o : Outcome) → 32768 < length a → 32768 < length b
-    → AnswersSecret secret a o → AnswersSecret secret b o
-both_long None a b o p q h = h
-both_long (Some secret) a b o p q h = let h' = rw (lt-ltb _ _ p) at h in rw (lt-ltb _ _ q) h'
+both_long : (command : Command) (conf : ConfValue) (a b : List ℕ) (o : Outcome) → 16777216 < length a → 16777216 < length b
+    → WorksInput command conf a o → WorksInput command conf b o
+both_long command conf a b o p q h =
+    let refuses : o ≡ refused (codes "input") =
+        subst (λ t. MatchBool t (o ≡ refused (codes "input")) (Works command conf (lines_of a) o)) (long_is a p) h in
+    subst (λ t. MatchBool t (o ≡ refused (codes "input")) (Works command conf (lines_of b) o)) (sym (long_is b q)) refuses
 
 -- the whole input, where it is told, and else what was read
-known : (conf read : List ℕ) (left after : Option (List ℕ)) (o : Outcome) → left ≡ prepend_known read after
-    → (length read ≤ 32768 → IsAtEnd after) → Answers conf read o → (input : List ℕ) × IfSome left (λ all. all ≡ input) × Answers conf input o
-known conf read None after o e h answers = (read, tt, answers)
-known conf read (Some all) None o e h answers = cc
-known conf read (Some all) (Some rest) o e h answers =
+known : (command : Command) (conf : ConfValue) (read : List ℕ) (left after : Option (List ℕ)) (o : Outcome) → left ≡ prepend_known read after
+    → (length read ≤ 16777216 → IsAtEnd after) → WorksInput command conf read o → (input : List ℕ) × IfSome left (λ all. all ≡ input) × WorksInput command conf input o
+known command conf read None after o e h works = (read, tt, works)
+known command conf read (Some all) None o e h works = cc
+known command conf read (Some all) (Some rest) o e h works =
     let whole : all ≡ read ++ rest = cc in
-    elim (cases_lt 32768 (length read)) [
-      | inl long ↦ (all, refl, both_long _ read all o long (omega (arith, ap length whole, length-append read rest)) answers)
-      | inr short ↦ (all, refl, subst (λ l. Answers conf l o) (sym (whole ∙ (ap (λ l. read ++ l) (h short) ∙ append-nil read))) answers)
+    elim (cases_lt 16777216 (length read)) [
+      | inl long ↦ (all, refl, both_long command conf read all o long (omega (arith, ap length whole, length-append read rest)) works)
+      | inr short ↦ (all, refl, subst (λ l. WorksInput command conf l o) (sym (whole ∙ (ap (λ l. read ++ l) (h short) ∙ append-nil read))) works)
     ]
 
--- An outcome's own statuses. A record, so that a search finds the outcome.
-abbrev IsOwn : Status → Type 0
-IsOwn Done = Unit {0}
-IsOwn Denials = Unit {0}
-IsOwn Refused = Unit {0}
-IsOwn status = ⊥
+pub answers_read : (command : Command) (text : List ℕ) (conf : ConfValue) (read : List ℕ) (left after : Option (List ℕ)) (o : Outcome) → Configures text conf
+    → (LacksKey command conf → ⊥) → left ≡ prepend_known read after → (length read ≤ 16777216 → IsAtEnd after) → WorksInput command conf read o
+    → Answers command text left o
+answers_read command text conf read left after o configures has e h works =
+    let k = known command conf read left after o e h works in worked conf k.0 configures has k.1 k.2
 
-record Ends (o : Outcome) : Type 0 where
-  own : IsOwn o.status
+shows_own : (command : Command) (conf : List ℕ) (around : Around) (status : Status) → IsOwn status → Worked command conf around status → ShowsWork status command conf around
+shows_own command conf around Done i w = w
+shows_own command conf around Denials i w = w
+shows_own command conf around Refused i w = w
+shows_own command conf around Words i w = absurd i
+shows_own command conf around Outside i w = tt
+shows_own command conf around Memory i w = tt
 
-verdict_ends : (verdict : Option Verdict) → Ends (outcome_of verdict)
-verdict_ends None = record { own = tt }
-verdict_ends (Some (Admitted content)) = record { own = tt }
-verdict_ends (Some (Denied rule)) = record { own = tt }
+-- what a put of an outcome leaves
+pub shows_put : (command : Command) (conf : List ℕ) (around : Around) (before faults : ℕ) (text : List ℕ) (status result : Status) (o : Outcome)
+    → Answers command conf around.left o → IsOwn o.status → text ≡ o.text → status ≡ o.status
+    → Wrote around.told around.told_after before faults text status result → ShowsWork result command conf around
+shows_put command conf around before faults text status result o answers own t s (inl wrote) =
+    let ends : result ≡ o.status = wrote.0 ∙ s in
+    let w : Worked command conf around o.status =
+        record { outcome = o; answers = answers; written = wrote.1 ∙ ap (append_known around.told) t; ends = refl } in
+    subst (λ r. ShowsWork r command conf around) (sym ends) (shows_own command conf around o.status own w)
+shows_put command conf around before faults text status result o answers own t s (inr failed) =
+    subst (λ r. ShowsWork r command conf around) (sym failed.0) tt
 
-refused_ends : (what : List ℕ) → Ends (refused what)
-refused_ends what = record { own = tt }
+not_outside : (status : Status) → IsOwn status → status ≡ Outside → ⊥
+not_outside Done i e = cc
+not_outside Denials i e = cc
+not_outside Refused i e = cc
+not_outside Words i e = absurd i
+not_outside Outside i e = absurd i
+not_outside Memory i e = absurd i
 
-nothing_ends : Ends nothing
-nothing_ends = record { own = tt }
+-- status 4 behind a put comes of the put
+pub put_failed : (told told_after : Option (List ℕ)) (before faults : ℕ) (text : List ℕ) (status result : Status) → IsOwn status
+    → Wrote told told_after before faults text status result → result ≡ Outside → Rose before faults
+put_failed told told_after before faults text status result own (inl wrote) e = absurd (not_outside status own (sym wrote.0 ∙ e))
+put_failed told told_after before faults text status result own (inr failed) e = failed.1
 
-same_end : (o p : Outcome) → o ≡ p → Ends p → Ends o
-same_end o p e h = subst Ends (sym e) h
+reads_unless : (status : Status) (ended : Bool) → (status ≡ Refused) ⊎ (ended ≡ true) → IsOwn status → ReadsWhole status ended
+reads_unless Done ended (inl e) i = let differ : Done ≡ Refused = e in cc
+reads_unless Done ended (inr e) i = e
+reads_unless Denials ended (inl e) i = let differ : Denials ≡ Refused = e in cc
+reads_unless Denials ended (inr e) i = e
+reads_unless Refused ended e i = tt
+reads_unless Words ended e i = absurd i
+reads_unless Outside ended e i = absurd i
+reads_unless Memory ended e i = absurd i
 
-ask_ends : (secret : List ℕ) (ask : Option AskValue) (o : Outcome) → AnswersAsk secret ask o → Ends o
-ask_ends secret None o h = same_end o (refused (codes "line 1")) h (refused_ends (codes "line 1"))
-ask_ends secret (Some ask) o h = same_end o (outcome_of h.0) h.2 (verdict_ends h.0)
+pub reads_put : (told told_after : Option (List ℕ)) (before faults : ℕ) (text : List ℕ) (status result : Status) (ended : Bool) → IsOwn status
+    → (status ≡ Refused) ⊎ (ended ≡ true) → Wrote told told_after before faults text status result → ReadsWhole result ended
+reads_put told told_after before faults text status result ended own e (inl wrote) = subst (λ r. ReadsWhole r ended) (sym wrote.0) (reads_unless status ended e own)
+reads_put told told_after before faults text status result ended own e (inr failed) = subst (λ r. ReadsWhole r ended) (sym failed.0) tt
 
-either : (b : Bool) (P Q : Type 0) (o : Outcome) → (P → Ends o) → (Q → Ends o) → MatchBool b P Q → Ends o
-either true P Q o f g h = f h
-either false P Q o f g h = g h
+long_or_works : (b : Bool) (P Q : Type 0) (o : Outcome) → (P → o.status ≡ Refused) → MatchBool b P Q → (o.status ≡ Refused) ⊎ (b ≡ false)
+long_or_works true P Q o f h = inl (f h)
+long_or_works false P Q o f h = inr refl
 
-answer_ends : (secret : Option (List ℕ)) (input : List ℕ) (o : Outcome) → AnswersSecret secret input o → Ends o
-answer_ends None input o h = same_end o (refused (codes "conf unbuilt")) h (refused_ends (codes "conf unbuilt"))
-answer_ends (Some secret) input o h =
-    let AtAsk : Type 0 = AnswersAsk secret (ask_of input) o in
-    either (nat_lt 32768 (length input)) (o ≡ refused (codes "input")) (MatchBool (length input == 0) (o ≡ nothing) AtAsk) o
-    (λ e. same_end o (refused (codes "input")) e (refused_ends (codes "input")))
-    (either (length input == 0) (o ≡ nothing) AtAsk o (λ e. same_end o nothing e nothing_ends) (ask_ends secret (ask_of input) o))
-    h
-
-long_refused : (n : ℕ) (b : Bool) (P Q : Type 0) (o : Outcome) → nat_lt 32768 n ≡ b → (P → o.status ≡ Refused) → MatchBool b P Q
-    → (o.status ≡ Refused) ⊎ (n ≤ 32768)
-long_refused n true P Q o e f h = inl (f h)
-long_refused n false P Q o e f h = inr (ltb-false 32768 n e)
+short_by : (b c : Bool) (n : ℕ) → nat_lt 16777216 n ≡ b → (b || c) ≡ false → n ≤ 16777216
+short_by true c n e f = let differ : true ≡ false = f in cc
+short_by false c n e f = ltb-false 16777216 n e
 
 -- what is not refused was read to its end
-short_or_refused : (secret : Option (List ℕ)) (input : List ℕ) (o : Outcome) → AnswersSecret secret input o → (o.status ≡ Refused) ⊎ (length input ≤ 32768)
-short_or_refused None input o h = inl (ap (λ o. o.status) h)
-short_or_refused (Some secret) input o h =
-    long_refused (length input) (nat_lt 32768 (length input)) (o ≡ refused (codes "input"))
-    (MatchBool (length input == 0) (o ≡ nothing) (AnswersAsk secret (ask_of input) o)) o refl (λ e. ap (λ o. o.status) e) h
+pub read_whole : (command : Command) (conf : ConfValue) (read : List ℕ) (o : Outcome) (ended : Bool) → (length read ≤ 16777216 → ended ≡ true)
+    → WorksInput command conf read o → (o.status ≡ Refused) ⊎ (ended ≡ true)
+read_whole command conf read o ended over works =
+    elim (long_or_works (is_long_input read) (o ≡ refused (codes "input")) (Works command conf (lines_of read) o) o (λ e. ap (λ o. o.status) e) works) [
+      | inl refuses ↦ inl refuses
+      | inr short ↦ inr (over (short_by (nat_lt 16777216 (length read)) (list_any is_long_line (lines_of read)) (length read) refl short))
+    ]
 
-shows : (status : Status) (name : List ℕ) (around : Around) → IsOwn status → Answered name around status → Shows status name around
-shows Done name around i a = a
-shows Denials name around i a = a
-shows Refused name around i a = a
-shows Words name around i a = absurd i
-shows Outside name around i a = tt
-shows Memory name around i a = tt
-
--- what the last put leaves
-pub answered : (name : List ℕ) (around : Around) (conf read : List ℕ) (after : Option (List ℕ)) (before faults : ℕ) (text : List ℕ) (status result : Status) (o : Outcome)
-    → IfSome around.files (λ files. file_of files name ≡ Some conf) → around.left ≡ prepend_known read after → (length read ≤ 32768 → IsAtEnd after)
-    → Answers conf read o → text ≡ o.text → status ≡ o.status → Wrote around.told around.told_after before faults text status result → Shows result name around
-answered name around conf read after before faults text status result o loaded left over answers is_text is_status (inl done) =
-    let k = known conf read around.left after o left over answers in
-    let ends : result ≡ o.status = done.0 ∙ is_status in
-    shows result name around (subst IsOwn (sym ends) ((answer_ends _ read o answers).own))
-    (record { conf = conf; loaded = loaded; input = k.0; read = k.1; outcome = o; answers = k.2; written = done.1 ∙ ap (append_known around.told) is_text; ends = ends })
-answered name around conf read after before faults text status result o loaded left over answers is_text is_status (inr failed) =
-    subst (λ s. Shows s name around) (sym failed.0) tt
-
-not_own : (s : Status) → IsOwn s → Outside ≡ s → ⊥
-not_own s i e = subst IsOwn (sym e) i
-
--- the status of a failed put is that of a count that rose
-pub put_failed : (conf read : List ℕ) (told told_after : Option (List ℕ)) (before faults : ℕ) (text : List ℕ) (status result : Status) (o : Outcome)
-    → Answers conf read o → status ≡ o.status → Wrote told told_after before faults text status result → result ≡ Outside → Rose before faults
-put_failed conf read told told_after before faults text status result o answers is (inl done) e =
-    absurd (not_own _ ((answer_ends _ read o answers).own) (sym e ∙ (done.0 ∙ is)))
-put_failed conf read told told_after before faults text status result o answers is (inr failed) e = failed.1
-
-whole_at : (status : Status) (ended : Bool) → (status ≡ Refused) ⊎ (ended ≡ true) → IsOwn status → ReadsWhole status ended
-whole_at Done ended (inl e) i = cc
-whole_at Done ended (inr e) i = e
-whole_at Denials ended (inl e) i = cc
-whole_at Denials ended (inr e) i = e
-whole_at Refused ended h i = tt
-whole_at Words ended h i = tt
-whole_at Outside ended h i = tt
-whole_at Memory ended h i = tt
-
--- the statuses 0 and 1 come where the input was read to its end
-pub reads_whole : (conf read : List ℕ) (told told_after : Option (List ℕ)) (before faults : ℕ) (text : List ℕ) (status result : Status) (o : Outcome) (ended : Bool)
-    → (length read ≤ 32768 → ended ≡ true) → Answers conf read o → status ≡ o.status → Wrote told told_after before faults text status result → ReadsWhole result ended
-reads_whole conf read told told_after before faults text status result o ended over answers is (inl done) =
-    let ends : result ≡ o.status = done.0 ∙ is in
-    let cause : (o.status ≡ Refused) ⊎ (ended ≡ true) = elim (short_or_refused _ read o answers) [ inl e ↦ inl e | inr short ↦ inr (over short) ] in
-    subst (λ s. ReadsWhole s ended) (sym ends) (whole_at o.status ended cause ((answer_ends _ read o answers).own))
-reads_whole conf read told told_after before faults text status result o ended over answers is (inr failed) =
-    subst (λ s. ReadsWhole s ended) (sym failed.0) tt
+-- what is shown of a command whose configuration was loaded
+pub shows_loaded : (status : Status) (command : Command) (conf : List ℕ) (around : Around)
+    → IfSome around.files (λ files. file_of files (conf_name command) ≡ Some conf) → ShowsWork status command conf around → Shows status command around
+shows_loaded Done command conf around loaded w = record { conf = conf; loaded = loaded; worked = w }
+shows_loaded Denials command conf around loaded w = record { conf = conf; loaded = loaded; worked = w }
+shows_loaded Refused command conf around loaded w = record { conf = conf; loaded = loaded; worked = w }
+shows_loaded Words command conf around loaded w = w
+shows_loaded Outside command conf around loaded w = tt
+shows_loaded Memory command conf around loaded w = tt

@@ -1,3 +1,7 @@
-pub mod Asks
+pub mod Cutting
+pub mod Deciding
+pub mod Checking
+pub mod Texts
+pub mod Signing
+pub mod Working
 pub mod Known
-pub mod Readings

@@ -7,3 +7,4 @@ pub mod Run
 pub mod Sign
 pub mod Words
 pub mod Steps
+pub mod Work

@@ -1,18 +1,24 @@
 -- A line of `check`: a moment, a URI, and the token of a cookie or none.
-use Rattle.std.specs.Prelude.{ℕ, ◌||◌, ◌==◌, List, [], ◌∷◌, length, Option, Some, None, if◌then◌else◌}
+use Rattle.std.specs.Prelude.{ℕ, ◌==◌, List, [], ◌∷◌, length, Option, Some, None, if◌then◌else◌}
 use Rattle.std.specs.List.{slice_split}
 use Rattle.std.specs.Option.{option_map}
 use Rattle.usp_base.specs.Numbers.{number_of}
 use Rattle.usp_rules.specs.Asks.{AskValue}
 
--- the ask at a moment that is a number below 2 ^ 52
+-- the ask at a moment that is a number below 2 ^ 52, for a URI that is not empty
 abbrev pub ask_at : List ℕ → List ℕ → Option (List ℕ) → Option AskValue
-ask_at moment uri cookie = option_map (λ at. record { uri = uri; cookie = cookie; moment = at }) (number_of 4503599627370495 moment)
+ask_at moment uri cookie =
+    if length uri == 0 then None
+    else option_map (λ at. record { uri = uri; cookie = cookie; moment = at }) (number_of 4503599627370495 moment)
 
--- two fields or three, of which neither the URI nor the token is empty
+-- the same with a token that is not empty
+abbrev pub ask_with : List ℕ → List ℕ → List ℕ → Option AskValue
+ask_with moment uri token = if length token == 0 then None else ask_at moment uri (Some token)
+
+-- two fields or three
 abbrev pub ask_from : List (List ℕ) → Option AskValue
-ask_from (moment ∷ uri ∷ []) = if length uri == 0 then None else ask_at moment uri None
-ask_from (moment ∷ uri ∷ token ∷ []) = if length uri == 0 || length token == 0 then None else ask_at moment uri (Some token)
+ask_from (moment ∷ uri ∷ []) = ask_at moment uri None
+ask_from (moment ∷ uri ∷ token ∷ []) = ask_with moment uri token
 ask_from fields = None
 
 -- the ask of a line, whose fields one space parts

@@ -1,12 +1,16 @@
 -- The lines of an input.
-use Rattle.std.specs.Prelude.{ℕ, Bool, ◌||◌, ◌==◌, nat_lt, List, [], ◌∷◌, length, if◌then◌else◌}
+use Rattle.std.specs.Prelude.{ℕ, Bool, ◌||◌, ◌==◌, nat_lt, List, [], ◌∷◌, length}
 use Rattle.std.specs.List.{list_any, slice_split}
 use Rattle.usp_base.specs.Cuts.{without_end}
 
 -- the lines, by what stands between the line feeds: a carriage return before a line feed goes, and nothing behind the last is no line
+abbrev pub last_line : List ℕ → List (List ℕ)
+last_line [] = []
+last_line (b ∷ text) = (b ∷ text) ∷ []
+
 abbrev pub lines_in : List (List ℕ) → List (List ℕ)
 lines_in [] = []
-lines_in (last ∷ []) = if length last == 0 then [] else last ∷ []
+lines_in (last ∷ []) = last_line last
 lines_in (part ∷ next ∷ parts) = without_end 13 part ∷ lines_in (next ∷ parts)
 
 abbrev pub lines_of : List ℕ → List (List ℕ)

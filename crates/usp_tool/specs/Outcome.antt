@@ -31,3 +31,10 @@ fault_name (fault.Range member) = members.name_of member
 fault_name (fault.ShortKey kid) = kid
 fault_name (fault.Repeat member) = members.name_of member
 fault_name fault.NoMemory = codes "memory"
+
+-- the status is one that an outcome has
+abbrev pub IsOwn : Status → Type 0
+IsOwn Done = Unit {0}
+IsOwn Denials = Unit {0}
+IsOwn Refused = Unit {0}
+IsOwn other = ⊥

@@ -1,7 +1,6 @@
 -- What a call of the program did.
 use Rattle.std.specs.Prelude.{◌≡◌, ◌⊎◌, ℕ, Bool, true, List, [], ◌∷◌, ◌++◌, Option, Some, None, IfSome}
 use Rattle.std.specs.Io.KnownBytes.{append_known}
-use Rattle.std.specs.Option.{option_map}
 use Rattle.usp_base.specs.declared.fault.Status.{Status}
 use Rattle.usp_base.specs.declared.fault.Status.TheVariants.{Done, Denials, Words, Refused, Outside, Memory}
 use Rattle.usp_base.specs.declared.files.MemoryFile.{MemoryFile}
@@ -22,23 +21,33 @@ pub record Around : Type 0 where
   pub told : Option (List ℕ)
   pub told_after : Option (List ℕ)
 
--- The configuration that the command names was loaded, and what went out, and the status, are the outcome.
-pub record Answered (command : Command) (around : Around) (status : Status) : Type 0 where
-  pub conf : List ℕ
-  pub loaded : IfSome around.files (λ files. file_of files (conf_name command) ≡ Some conf)
+-- What went out, and the status, are an outcome of the command under this configuration.
+pub record Worked (command : Command) (conf : List ℕ) (around : Around) (status : Status) : Type 0 where
   pub outcome : Outcome
   pub answers : Answers command conf around.left outcome
   pub written : around.told_after ≡ append_known around.told outcome.text
   pub ends : status ≡ outcome.status
 
--- What a status says.
+-- The configuration that the command names was loaded, and the command was worked under it.
+pub record Answered (command : Command) (around : Around) (status : Status) : Type 0 where
+  pub conf : List ℕ
+  pub loaded : IfSome around.files (λ files. file_of files (conf_name command) ≡ Some conf)
+  pub worked : Worked command conf around status
+
+-- What a status says, where Says is what it says of a command that was worked.
+abbrev pub ShowsBy : (Status → Type 0) → Status → Type 0
+ShowsBy Says Done = Says Done
+ShowsBy Says Denials = Says Denials
+ShowsBy Says Refused = Says Refused
+ShowsBy Says Words = ⊥
+ShowsBy Says Outside = Unit {0}
+ShowsBy Says Memory = Unit {0}
+
+abbrev pub ShowsWork : Status → Command → List ℕ → Around → Type 0
+ShowsWork status command conf around = ShowsBy (λ s. Worked command conf around s) status
+
 abbrev pub Shows : Status → Command → Around → Type 0
-Shows Done command around = Answered command around Done
-Shows Denials command around = Answered command around Denials
-Shows Refused command around = Answered command around Refused
-Shows Words command around = ⊥
-Shows Outside command around = Unit {0}
-Shows Memory command around = Unit {0}
+Shows status command around = ShowsBy (λ s. Answered command around s) status
 
 -- A command asks for its configuration once, or for no file.
 abbrev pub AsksAtMost : Option Command → Option (List (List ℕ)) → Option (List (List ℕ)) → Type 0

@@ -1,9 +1,9 @@
 // A text that is written, and how it ends.
-ghost use Rattle.std.specs.Prelude.{◌≡◌, ◌++◌, IfOk, OnOk};
+ghost use Rattle.std.specs.Prelude.{◌≡◌, ◌++◌, codes, IfOk, OnOk};
 ghost use Rattle.std.specs.Fmt.{decimal};
 ghost use Rattle.usp_tool.specs.Outcome.{fault_name, refused, refused_line};
 
-use std::alloc::{AllocError, Global};
+use std::alloc::{AllocError, AllocFailed, Global};
 use std::marker::Model;
 use usp_base::Status;
 use usp_conf::ConfFault;
@@ -13,7 +13,17 @@ use usp_conf::ConfFault;
 pub struct NoMemory;
 
 impl From<AllocError> for NoMemory {
+    ghost from_gives = { λ _ e. Unit {0} };
+
     fn from(_: AllocError) -> Self {
+        NoMemory
+    }
+}
+
+impl<T: Drop> From<AllocFailed<T>> for NoMemory {
+    ghost from_gives = { λ _ e. Unit {0} };
+
+    fn from(_: AllocFailed<T>) -> Self {
         NoMemory
     }
 }
@@ -77,6 +87,7 @@ pub fn push_number(alloc: Global, text: &mut Vec<u8>, number: u64) -> Result<(),
 }
 
 /// Puts the line that refuses a line of the input behind a text.
+#[tactic(auto, using(crate::proofs::Texts::refused_line_text))]
 pub fn push_refused_line(alloc: Global, text: &mut Vec<u8>, number: u64) -> Result<(), NoMemory>
     ensures { OnOk result (text.new.items ≡ text.old.items ++ (refused_line number).text) }
 {

@@ -4,6 +4,7 @@ ghost use Rattle.usp_nonce.specs.History.{Call, IsLegal};
 ghost use Rattle.usp_nonce.specs.Stands.{StandsFor};
 ghost use Rattle.usp_tool.specs.Answer.{IsChecked};
 ghost use Rattle.usp_tool.specs.Lines.{lines_of};
+ghost use Rattle.usp_tool.specs.Outcome.{IsOwn};
 ghost use Rattle.usp_tool.specs.Line.{ask_of};
 ghost use Rattle.usp_tool.specs.Steps.{ChecksLine, worked_of};
 
@@ -26,7 +27,7 @@ pub enum Worked {
     Refused,
 }
 
-fn worked(verdict: &Verdict) -> Worked
+fn ending(verdict: &Verdict) -> Worked
     ensures { result ≡ worked_of verdict.now }
 {
     match verdict {
@@ -57,13 +58,14 @@ fn check_line(
     };
     let verdict = decide(alloc, kit, profile, table, &ask)?;
     push_verdict(alloc, text, number, &verdict)?;
-    Ok(worked(&verdict))
+    Ok(ending(&verdict))
 }
 
 /// Judges the lines of an input, in their order, with one nonce table.
 pub fn check(alloc: Global, kit: &Kit, conf: &Conf, input: &[u8]) -> Result<Answer, NoMemory>
     requires { length input.now ≤ 16777216 }
-    ensures { IfOk result (λ answer. IsChecked conf.now (lines_of input.now) answer) }
+    ensures checked { IfOk result (λ answer. IsChecked conf.now (lines_of input.now) answer) }
+    ensures own { IfOk result (λ answer. IsOwn answer.status) }
 {
     let Ok(mut table) = NonceTable::with_room(alloc, conf.room()) else {
         return Err(NoMemory);

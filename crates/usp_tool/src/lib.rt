@@ -2,15 +2,16 @@
 #![tactic(auto)]
 
 mod answer;
-mod conf;
-mod judging;
+mod check;
 mod line;
+mod lines;
 mod program;
 mod reading;
-#[cfg(test)]
-mod tests;
+mod sign;
 mod tool;
 mod verdict;
+mod words;
+mod work;
 
 pub use program::{Outside, run};
 pub use tool::run_tool;

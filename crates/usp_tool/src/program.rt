@@ -1,12 +1,13 @@
 // The top call.
 ghost use Rattle.std.specs.Prelude.{◌≡◌, ◌⊎◌, map, string_bytes, IfSome, IfNone};
 ghost use Rattle.usp_base.specs.Outside.{Rose};
-ghost use Rattle.usp_tool.specs.Words.{conf_word, usage};
+ghost use Rattle.usp_tool.specs.Words.{command_of, usage};
 ghost use Rattle.usp_tool.specs.Run.{Wrote, Shows, Around, AsksAtMost, ReadsWhole};
 
 use crate::run_tool;
 use std::alloc::Global;
 use usp_base::{Files, Sink, Source, Status};
+use usp_ext::Kit;
 
 /// What the program is run over.
 #[derive(Drop)]
@@ -14,6 +15,8 @@ pub struct Outside<F, S, K> {
     pub files: F,
     pub input: S,
     pub out: K,
+    /// The tests of the claims that extensions name.
+    pub kit: Kit,
 }
 
 /// The whole program over its outside: reads the words and runs their command. `main` makes the real
@@ -23,10 +26,10 @@ pub fn run<F: Files, S: Source, K: Sink>(
     words: &[String],
     outside: &mut Outside<F, S, K>,
 ) -> Status
-    ensures words { IfNone (conf_word (map (λ w. string_bytes w) words.now))
+    ensures words { IfNone (command_of (map (λ w. string_bytes w) words.now))
         (Wrote (K.told outside.old.out) (K.told outside.new.out) (K.put_count outside.old.out) (K.put_count outside.new.out)
         usage Status.Words result) }
-    ensures answered { IfSome (conf_word (map (λ w. string_bytes w) words.now)) (λ name. Shows result name
+    ensures answered { IfSome (command_of (map (λ w. string_bytes w) words.now)) (λ command. Shows result command
         (record {
           files = F.files outside.old.files;
           left = S.left outside.old.input;
@@ -36,11 +39,12 @@ pub fn run<F: Files, S: Source, K: Sink>(
     ensures outside { result ≡ Status.Outside → Rose (F.file_count outside.old.files) (F.file_count outside.new.files)
         ⊎ (Rose (S.read_count outside.old.input) (S.read_count outside.new.input)
         ⊎ Rose (K.put_count outside.old.out) (K.put_count outside.new.out)) }
-    ensures asked { AsksAtMost (conf_word (map (λ w. string_bytes w) words.now)) (F.asked outside.old.files) (F.asked outside.new.files) }
+    ensures asked { AsksAtMost (command_of (map (λ w. string_bytes w) words.now)) (F.asked outside.old.files) (F.asked outside.new.files) }
     ensures whole { ReadsWhole result (S.ended outside.new.input) }
 {
     run_tool(
         alloc,
+        &outside.kit,
         words,
         &mut outside.files,
         &mut outside.input,

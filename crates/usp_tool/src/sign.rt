@@ -11,6 +11,7 @@ ghost use Rattle.usp_json.specs.Canon.{canon_members};
 ghost use Rattle.usp_package.specs.Package.{embedded, nothing, package_of};
 ghost use Rattle.usp_rules.specs.Tokens.{SpellsClaims};
 ghost use Rattle.usp_tool.specs.Lines.{lines_of};
+ghost use Rattle.usp_tool.specs.Outcome.{IsOwn};
 ghost use Rattle.usp_tool.specs.Sign.{Signs, SignsAll, claims_for, is_open, key_named, payload_for, signed_uri};
 
 use crate::answer::{Answer, NoMemory, push_refused_line};
@@ -86,7 +87,6 @@ fn token_for(alloc: Global, key: &Key, uri: &Uri, claims: Claims) -> Result<Toke
 }
 
 // The URI with the token as its package.
-#[tactic(auto, using(crate::proofs::Signing::letters_run))]
 fn embedded(
     alloc: Global,
     attribute: &AttrName,
@@ -176,7 +176,8 @@ pub fn sign(
     input: &[u8],
 ) -> Result<Answer, NoMemory>
     requires { length input.now ≤ 16777216 }
-    ensures { IfOk result (λ answer. SignsAll attribute.now key.now 1 (lines_of input.now) answer) }
+    ensures signed { IfOk result (λ answer. SignsAll attribute.now key.now 1 (lines_of input.now) answer) }
+    ensures own { IfOk result (λ answer. IsOwn answer.status) }
 {
     let mut text = Vec::new(alloc);
     let mut number = 1;

@@ -1,25 +1,20 @@
-// The command `check`.
-ghost use Rattle.std.specs.Prelude.{◌≡◌, ◌⊎◌, map, string_bytes, IfSome, IfNone};
-ghost use Rattle.std.specs.Option.{option_map};
+// The commands of one thread.
+ghost use Rattle.std.specs.Prelude.{◌≡◌, ◌⊎◌, map, string_bytes, List, Option, IfSome, IfNone};
 ghost use Rattle.std.specs.Io.KnownBytes.{append_known};
 ghost use Rattle.usp_base.specs.Outside.{Rose};
-ghost use Rattle.usp_tool.specs.Words.{conf_word, usage};
-ghost use Rattle.usp_tool.specs.Run.{Wrote, Shows, Around, AsksAtMost, ReadsWhole};
+ghost use Rattle.usp_base.specs.declared.files.MemoryFile.{MemoryFile};
+ghost use Rattle.usp_tool.specs.Words.{command_of, shown, usage};
+ghost use Rattle.usp_tool.specs.Run.{Wrote, Shows, ShowsWork, Around, AsksAtMost, ReadsWhole};
 
-use crate::answer::{LONGEST_INPUT, answer_to};
+use crate::lines::LONGEST_INPUT;
 use crate::reading::read_up_to;
+use crate::words::{Command, command_of};
+use crate::work::{Prepared, prepare, work};
 use std::alloc::Global;
 use usp_base::{Files, LoadFault, Sink, Source, Status};
+use usp_ext::Kit;
 
-// The configuration's name, where the words are `check CONF`.
-fn conf_of(words: &[String]) -> Option<&str>
-    ensures { option_map (λ conf. conf.now) result ≡ conf_word (map (λ w. string_bytes w) words.now) }
-{
-    match words {
-        [word, conf] if word.as_str() == "check" => Some(conf.as_str()),
-        _ => None,
-    }
-}
+const USAGE: &[u8] = b"usage: usp sign CONF KID | check CONF\n";
 
 // Puts a text, and answers the status behind it.
 fn put_text<K: Sink>(out: &mut K, text: &[u8], status: Status) -> Status
@@ -31,39 +26,62 @@ fn put_text<K: Sink>(out: &mut K, text: &[u8], status: Status) -> Status
     }
 }
 
-/// `check CONF` (the words are those behind the program's name). The status 2 comes exactly where the
-/// words are no command, but where the usage line can't be put.
-pub fn run_tool<F: Files, S: Source, K: Sink>(
+// The work of a command under a configuration's text.
+fn run_command<S: Source, K: Sink>(
     alloc: Global,
-    words: &[String],
-    files: &mut F,
+    kit: &Kit,
+    command: &Command<'_>,
+    text: &[u8],
     input: &mut S,
     out: &mut K,
 ) -> Status
-    ensures words { IfNone (conf_word (map (λ w. string_bytes w) words.now))
-        (Wrote (K.told out.old) (K.told out.new) (K.put_count out.old) (K.put_count out.new) usage Status.Words result) }
-    ensures answered { IfSome (conf_word (map (λ w. string_bytes w) words.now)) (λ name. Shows result name
-        (record { files = F.files files.old; left = S.left input.old; told = K.told out.old; told_after = K.told out.new })) }
-    ensures outside { result ≡ Status.Outside → Rose (F.file_count files.old) (F.file_count files.new)
-        ⊎ (Rose (S.read_count input.old) (S.read_count input.new) ⊎ Rose (K.put_count out.old) (K.put_count out.new)) }
-    ensures asked { AsksAtMost (conf_word (map (λ w. string_bytes w) words.now)) (F.asked files.old) (F.asked files.new) }
+    ensures worked { (files : Option (List MemoryFile)) → ShowsWork result (shown command.now) text.now
+        (record { files = files; left = S.left input.old; told = K.told out.old; told_after = K.told out.new }) }
+    ensures outside { result ≡ Status.Outside → Rose (S.read_count input.old) (S.read_count input.new) ⊎ Rose (K.put_count out.old) (K.put_count out.new) }
     ensures whole { ReadsWhole result (S.ended input.new) }
 {
-    let Some(name) = conf_of(words) else {
-        return put_text(out, b"usage: usp check CONF\n", Status::Words);
-    };
-    let conf = match files.load(alloc, name) {
-        Ok(conf) => conf,
-        Err(LoadFault::Failed) => return Status::Outside,
-        Err(LoadFault::NoMemory) => return Status::Memory,
+    let conf = match prepare(alloc, command, text) {
+        Ok(Prepared::Ready(conf)) => conf,
+        Ok(Prepared::Refused(answer)) => return put_text(out, answer.text(), answer.status()),
+        Err(_) => return Status::Memory,
     };
     let bytes = match read_up_to(alloc, input, LONGEST_INPUT) {
         Ok(bytes) => bytes,
         Err(LoadFault::Failed) => return Status::Outside,
         Err(LoadFault::NoMemory) => return Status::Memory,
     };
-    let Ok(answer) = answer_to(alloc, &conf, &bytes) else {
+    let Ok(answer) = work(alloc, kit, command, &conf, &bytes) else {
         return Status::Memory;
     };
     put_text(out, answer.text(), answer.status())
+}
+
+/// `check CONF` and `sign CONF KID` (the words are those behind the program's name). The status 2 comes
+/// exactly where the words are no command, but where the usage line can't be put.
+pub fn run_tool<F: Files, S: Source, K: Sink>(
+    alloc: Global,
+    kit: &Kit,
+    words: &[String],
+    files: &mut F,
+    input: &mut S,
+    out: &mut K,
+) -> Status
+    ensures words { IfNone (command_of (map (λ w. string_bytes w) words.now))
+        (Wrote (K.told out.old) (K.told out.new) (K.put_count out.old) (K.put_count out.new) usage Status.Words result) }
+    ensures answered { IfSome (command_of (map (λ w. string_bytes w) words.now)) (λ command. Shows result command
+        (record { files = F.files files.old; left = S.left input.old; told = K.told out.old; told_after = K.told out.new })) }
+    ensures outside { result ≡ Status.Outside → Rose (F.file_count files.old) (F.file_count files.new)
+        ⊎ (Rose (S.read_count input.old) (S.read_count input.new) ⊎ Rose (K.put_count out.old) (K.put_count out.new)) }
+    ensures asked { AsksAtMost (command_of (map (λ w. string_bytes w) words.now)) (F.asked files.old) (F.asked files.new) }
+    ensures whole { ReadsWhole result (S.ended input.new) }
+{
+    let Some(command) = command_of(words) else {
+        return put_text(out, USAGE, Status::Words);
+    };
+    let text = match files.load(alloc, command.conf()) {
+        Ok(text) => text,
+        Err(LoadFault::Failed) => return Status::Outside,
+        Err(LoadFault::NoMemory) => return Status::Memory,
+    };
+    run_command(alloc, kit, &command, &text, input, out)
 }

@@ -1,12 +1,12 @@
 // The verdict on a request, by all rules.
-ghost use Rattle.std.specs.Prelude.{◌≡◌, ◌≤◌, ◌<◌, ◌+◌, ◌^◌, ◌++◌, ◌∷◌, [], List, IfOk, codes};
+ghost use Rattle.std.specs.Prelude.{◌≡◌, ◌≤◌, ◌<◌, ◌+◌, ◌^◌, ◌++◌, List, ℕ, IfOk, OnOk, codes};
 ghost use Rattle.std.specs.Option.{unwrap_or};
 ghost use Rattle.usp_claims.specs.Table.{number_claim};
-ghost use Rattle.usp_nonce.specs.History.{Call, IsLegal, IsNext};
+ghost use Rattle.usp_nonce.specs.History.{Call, IsLegal};
 ghost use Rattle.usp_nonce.specs.Stands.{StandsFor};
 ghost use Rattle.usp_rules.specs.Judging.{Judges};
 ghost use Rattle.usp_rules.specs.declared.judged.Judged.TheVariants.{Passed};
-ghost use Rattle.usp_tool.specs.Check.{Decides, IsCall, verdict_by, verdict_line};
+ghost use Rattle.usp_tool.specs.Check.{IsDecided, verdict_by, verdict_line};
 
 use crate::answer::{NoMemory, push_number};
 use std::alloc::Global;
@@ -98,6 +98,7 @@ pub fn decide(
 }
 
 /// Puts the line of a verdict behind a text.
+#[tactic(auto, using(crate::proofs::Texts::admitted_text, crate::proofs::Texts::denied_text))]
 pub fn push_verdict(
     alloc: Global,
     text: &mut Vec<u8>,
