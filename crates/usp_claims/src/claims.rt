@@ -186,8 +186,7 @@ pub fn text(alloc: Global, claims: &Claims) -> Result<Vec<u8>, NoMemory>
 impl Claims {
     /// The claims as members, in their order.
     pub fn members(&self) -> &Members
-        ensures same { result.now ≡ self.now }
-        ensures named { AreNamed self.now }
+        ensures { result.now ≡ self.now }
     {
         &self.members
     }
@@ -354,6 +353,7 @@ impl Claims {
     pub fn text_len(&self) -> usize
         ensures value { result ≡ length (canon_members self.now) }
         ensures bound { result ≤ 6000 }
+        ensures named { AreNamed self.now }
     {
         self.text_len
     }
