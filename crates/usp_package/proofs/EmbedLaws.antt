@@ -252,3 +252,6 @@ pub embedded_normal : (name uri token : List ℕ) → is_attr_name name ≡ true
 embedded_normal name uri token attr normal run text is short =
     subst (λ (t : List ℕ). normal_of t ≡ Ok t) (sym is)
     (by_query (query_in uri) name uri token refl normal (package_literal name token (name_bytes name attr) run) (omega (arith, ap length is)))
+
+pub length-embedded : (name uri token : List ℕ) (query : Option (List ℕ)) (text : List ℕ) → text ≡ embedded name uri query token → length text ≡ length uri + length name + length token + 2
+length-embedded name uri token query text is = omega (arith, ap length is, length-append uri (joint query ∷ package_text name token), length-append name (61 ∷ token))

@@ -1,6 +1,6 @@
 //! Putting a package into a URI, and a content text together.
 
-ghost use Rattle.std.specs.Prelude.{◌≡◌, ◌++◌, ◌<◌, ◌≤◌, length, true, IfOk, Ok, []};
+ghost use Rattle.std.specs.Prelude.{◌≡◌, ◌++◌, ◌+◌, ◌<◌, ◌≤◌, length, true, IfOk, Ok, []};
 ghost use Rattle.std.specs.List.{list_all};
 ghost use Rattle.std.specs.Option.{option_copied};
 ghost use Rattle.usp_uri.specs.Components.{query_in};
@@ -58,6 +58,7 @@ pub fn embed(alloc: Global, name: &AttrName, uri: &Uri, token: &[u8]) -> Result<
     requires run { list_all is_run_byte token.now ≡ true }
     requires none { package_of name.now uri.now ≡ nothing }
     ensures text { IfOk result (λ text. text.items ≡ embedded name.now uri.now (query_in uri.now) token.now) }
+    ensures length { IfOk result (λ text. length text.items ≡ length uri.now + length name.now + length token.now + 2) }
     // Found again it is this token, with the whole URI before it and nothing after.
     ensures back { IfOk result (λ text. package_of name.now text.items ≡ carried token.now uri.now []) }
     // A URI in normal form again, where it is short enough to be read.

@@ -1,7 +1,8 @@
 use Rattle.std.proofs.Common.{ℕ, List, ap, ◌∙◌}
 use Rattle.std.specs.Option.{option_copied}
+use Rattle.usp_uri.specs.Components.{query_in}
 use Rattle.usp_package.specs.Package.{embedded}
-use Rattle.usp_package.proofs.EmbedLaws.{embedded_again, embedded_normal}
+use Rattle.usp_package.proofs.EmbedLaws.{embedded_again, embedded_normal, length-embedded}
 use Rattle.usp_package.proofs.embedding.embed.Goals as goal
 
 pub returns-clause-text : goal.returns-clause-text
@@ -15,3 +16,6 @@ returns-clause-back c =
 
 pub returns-clause-normal : goal.returns-clause-normal
 returns-clause-normal c = embedded_normal c.args.name.now c.args.uri.now c.args.token.now c.text.ensures.name c.text-2.ensures.normal c.requires.run c.in_ok-text.text.items (returns-clause-text c)
+
+pub returns-clause-length : goal.returns-clause-length
+returns-clause-length c = length-embedded c.args.name.now c.args.uri.now c.args.token.now (query_in c.args.uri.now) c.in_ok-text.text.items (returns-clause-text c)
