@@ -39,17 +39,23 @@ fn text_with(alloc: Global, name: &str, row: &str) -> Result<String, Fail> {
     Ok(text)
 }
 
-fn printed(alloc: Global, read: Result<Conf, ConfFault>) -> Result<String, Fail> {
-    Ok(match read {
-        Ok(_) => String::from_str(alloc, "read")?,
-        Err(ConfFault::Json) => String::from_str(alloc, "Json")?,
-        Err(ConfFault::Missing { member }) => format!(in alloc; "Missing {}", member.name())?,
-        Err(ConfFault::Kind { member }) => format!(in alloc; "Kind {}", member.name())?,
-        Err(ConfFault::Range { member }) => format!(in alloc; "Range {}", member.name())?,
-        Err(ConfFault::ShortKey { kid }) => format!(in alloc; "ShortKey {}", kid.text())?,
-        Err(ConfFault::Repeat { member }) => format!(in alloc; "Repeat {}", member.name())?,
-        Err(ConfFault::NoMemory) => String::from_str(alloc, "NoMemory")?,
+fn fault_text(alloc: Global, fault: &ConfFault) -> Result<String, Fail> {
+    Ok(match fault {
+        ConfFault::Json => String::from_str(alloc, "Json")?,
+        ConfFault::Missing { member } => format!(in alloc; "Missing {}", member.name())?,
+        ConfFault::Kind { member } => format!(in alloc; "Kind {}", member.name())?,
+        ConfFault::Range { member } => format!(in alloc; "Range {}", member.name())?,
+        ConfFault::ShortKey { kid } => format!(in alloc; "ShortKey {}", kid.text())?,
+        ConfFault::Repeat { member } => format!(in alloc; "Repeat {}", member.name())?,
+        ConfFault::NoMemory => String::from_str(alloc, "NoMemory")?,
     })
+}
+
+fn printed(alloc: Global, read: Result<Conf, ConfFault>) -> Result<String, Fail> {
+    match read {
+        Ok(_conf) => Ok(String::from_str(alloc, "read")?),
+        Err(fault) => fault_text(alloc, &fault),
+    }
 }
 
 // What is answered to that configuration with another row.
