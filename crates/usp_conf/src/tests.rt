@@ -489,6 +489,18 @@ fn repeated(alloc: Global, element: &[u8], count: usize) -> Result<Vec<u8>, Fail
     Ok(text)
 }
 
+// A member that is a list of so many of the same element.
+fn list_row(alloc: Global, name: &[u8], element: &[u8], count: usize) -> Result<Vec<u8>, Fail> {
+    let list = repeated(alloc, element, count)?;
+    joined(alloc, &[b"\"", name, b"\":[", &list, b"]"])
+}
+
+// So many letters between two texts.
+fn long_row(alloc: Global, front: &[u8], count: usize, back: &[u8]) -> Result<Vec<u8>, Fail> {
+    let middle = vec![in alloc; b'a'; count]?;
+    joined(alloc, &[front, &middle, back])
+}
+
 #[test]
 fn the_length_is_tried_before_the_elements(rt: HostRuntime) -> Result<(), Fail> {
     let alloc = rt.alloc();
@@ -505,8 +517,7 @@ fn the_length_is_tried_before_the_elements(rt: HostRuntime) -> Result<(), Fail> 
         (b"routes", b"1", 17, "Range routes"),
     ];
     for (name, element, count, expected) in rows {
-        let list = repeated(alloc, element, count)?;
-        let row = joined(alloc, &[b"\"", name, b"\":[", &list, b"]"])?;
+        let row = list_row(alloc, name, element, count)?;
         assert_eq!(rt; answer(alloc, name, &row)?.as_str(), expected);
     }
     Ok(())
@@ -542,8 +553,7 @@ fn texts_have_their_longest(rt: HostRuntime) -> Result<(), Fail> {
         ),
     ];
     for (name, front, count, back, expected) in rows {
-        let middle = vec![in alloc; b'a'; count]?;
-        let row = joined(alloc, &[front, &middle, back])?;
+        let row = long_row(alloc, front, count, back)?;
         assert_eq!(rt; answer(alloc, name, &row)?.as_str(), expected);
     }
     Ok(())
