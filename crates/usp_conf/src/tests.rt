@@ -6,69 +6,71 @@ use usp_ext::{Setting, TestKind};
 use usp_json::Text;
 
 // The rows of a configuration that is read, by their names.
-const BASE: [(&str, &str); 6] = [
-    ("edge", "\"edge\":\"e\""),
-    ("scheme", "\"scheme\":\"http\""),
+const BASE: [(&[u8], &[u8]); 6] = [
+    (b"edge", b"\"edge\":\"e\""),
+    (b"scheme", b"\"scheme\":\"http\""),
     (
-        "keys",
-        "\"keys\":[{\"kid\":\"k1\",\"issuer\":\"cp\",\"secret\":\"AQEBAQEBAQEBAQEBAQEBAQEBAQEBAQEBAQEBAQEBAQE\"}]",
+        b"keys",
+        b"\"keys\":[{\"kid\":\"k1\",\"issuer\":\"cp\",\"secret\":\"AQEBAQEBAQEBAQEBAQEBAQEBAQEBAQEBAQEBAQEBAQE\"}]",
     ),
-    ("issuers", "\"issuers\":[\"cp\"]"),
-    ("audience", "\"audience\":[\"e\"]"),
-    ("sign_kid", "\"sign_kid\":\"k1\""),
+    (b"issuers", b"\"issuers\":[\"cp\"]"),
+    (b"audience", b"\"audience\":[\"e\"]"),
+    (b"sign_kid", b"\"sign_kid\":\"k1\""),
 ];
 
+// The pieces, one after the other.
+fn joined(alloc: Global, pieces: &[&[u8]]) -> Result<Vec<u8>, Fail> {
+    let mut text = Vec::new(alloc);
+    for piece in pieces {
+        text.extend_from_slice(*piece)?;
+    }
+    Ok(text)
+}
+
 // That configuration with another row of that name, or with none where the row is empty.
-fn text_with(alloc: Global, name: &str, row: &str) -> Result<String, Fail> {
-    let mut text = String::from_str(alloc, "{\"others\":null")?;
+fn text_with(alloc: Global, name: &[u8], row: &[u8]) -> Result<Vec<u8>, Fail> {
+    let mut text = Vec::from_slice(alloc, b"{\"others\":null")?;
     let mut there = false;
     for (of, base) in BASE {
         let same = of == name;
         let piece = if same { row } else { base };
         if !piece.is_empty() {
-            text.push_str(",")?;
-            text.push_str(piece)?;
+            text.push(b',')?;
+            text.extend_from_slice(piece)?;
         }
         there = there || same;
     }
     if !there && !row.is_empty() {
-        text.push_str(",")?;
-        text.push_str(row)?;
+        text.push(b',')?;
+        text.extend_from_slice(row)?;
     }
-    text.push_str("}")?;
+    text.push(b'}')?;
     Ok(text)
 }
 
-fn printed(alloc: Global, read: Result<Conf, ConfFault>) -> Result<String, Fail> {
-    Ok(match read {
-        Ok(_) => String::from_str(alloc, "read")?,
-        Err(ConfFault::Json) => String::from_str(alloc, "Json")?,
-        Err(ConfFault::Missing { member }) => format!(in alloc; "Missing {}", member.name())?,
-        Err(ConfFault::Kind { member }) => format!(in alloc; "Kind {}", member.name())?,
-        Err(ConfFault::Range { member }) => format!(in alloc; "Range {}", member.name())?,
-        Err(ConfFault::ShortKey { kid }) => format!(in alloc; "ShortKey {}", kid.text())?,
-        Err(ConfFault::Repeat { member }) => format!(in alloc; "Repeat {}", member.name())?,
-        Err(ConfFault::NoMemory) => String::from_str(alloc, "NoMemory")?,
+fn fault_text(alloc: Global, fault: &ConfFault) -> Result<String, Fail> {
+    Ok(match fault {
+        ConfFault::Json => String::from_str(alloc, "Json")?,
+        ConfFault::Missing { member } => format!(in alloc; "Missing {}", member.name())?,
+        ConfFault::Kind { member } => format!(in alloc; "Kind {}", member.name())?,
+        ConfFault::Range { member } => format!(in alloc; "Range {}", member.name())?,
+        ConfFault::ShortKey { kid } => format!(in alloc; "ShortKey {}", kid.text())?,
+        ConfFault::Repeat { member } => format!(in alloc; "Repeat {}", member.name())?,
+        ConfFault::NoMemory => String::from_str(alloc, "NoMemory")?,
     })
 }
 
-// What is answered to that configuration with another row.
-fn answer(alloc: Global, name: &str, row: &str) -> Result<String, Fail> {
-    let text = text_with(alloc, name, row)?;
-    printed(alloc, read_conf(alloc, text.as_bytes()))
+fn printed(alloc: Global, read: Result<Conf, ConfFault>) -> Result<String, Fail> {
+    match read {
+        Ok(_conf) => Ok(String::from_str(alloc, "read")?),
+        Err(fault) => fault_text(alloc, &fault),
+    }
 }
 
-// A list of so many of the same element.
-fn list_of(alloc: Global, element: &str, count: usize) -> Result<String, Fail> {
-    let mut text = String::from_str(alloc, "[")?;
-    for i in 0..count {
-        if i > 0 {
-            text.push_str(",")?;
-        }
-        text.push_str(element)?;
-    }
-    text.push_str("]")?;
-    Ok(text)
+// What is answered to that configuration with another row.
+fn answer(alloc: Global, name: &[u8], row: &[u8]) -> Result<String, Fail> {
+    let text = text_with(alloc, name, row)?;
+    printed(alloc, read_conf(alloc, &text))
 }
 
 #[test]
@@ -93,28 +95,39 @@ fn a_text_that_is_no_json_has_no_row(rt: HostRuntime) -> Result<(), Fail> {
 }
 
 #[test]
-fn names_are_tried_first(rt: HostRuntime) -> Result<(), Fail> {
+fn the_edge_is_an_identity(rt: HostRuntime) -> Result<(), Fail> {
     let alloc = rt.alloc();
-    let rows = [
-        ("edge", "", "Missing edge"),
-        ("edge", "\"edge\":1", "Kind edge"),
-        ("edge", "\"edge\":null", "Kind edge"),
-        ("edge", "\"edge\":\"\"", "Range edge"),
-        ("edge", "\"edge\":\"a b\"", "Range edge"),
-        ("edge", "\"edge\":\"a\\\"\"", "Range edge"),
-        ("edge", "\"edge\":\"\\u00e9\"", "Range edge"),
-        ("edge", "\"edge\":\"!~\"", "read"),
-        ("edge", "\"edge\":1,\"edge\":\"e\"", "read"),
-        ("edge", "\"edge\":\"e\",\"edge\":1", "Kind edge"),
-        ("scheme", "", "Missing scheme"),
-        ("scheme", "\"scheme\":true", "Kind scheme"),
-        ("scheme", "\"scheme\":\"ftp\"", "Range scheme"),
-        ("scheme", "\"scheme\":\"HTTP\"", "Range scheme"),
-        ("scheme", "\"scheme\":\"https\"", "read"),
-        ("attribute", "\"attribute\":1", "Kind attribute"),
-        ("attribute", "\"attribute\":\"\"", "Range attribute"),
-        ("attribute", "\"attribute\":\"a.b\"", "Range attribute"),
-        ("attribute", "\"attribute\":\"a-_0\"", "read"),
+    let rows: [(&[u8], &str); 10] = [
+        (b"", "Missing edge"),
+        (b"\"edge\":1", "Kind edge"),
+        (b"\"edge\":null", "Kind edge"),
+        (b"\"edge\":\"\"", "Range edge"),
+        (b"\"edge\":\"a b\"", "Range edge"),
+        (b"\"edge\":\"a\\\"\"", "Range edge"),
+        (b"\"edge\":\"\\u00e9\"", "Range edge"),
+        (b"\"edge\":\"!~\"", "read"),
+        (b"\"edge\":1,\"edge\":\"e\"", "read"),
+        (b"\"edge\":\"e\",\"edge\":1", "Kind edge"),
+    ];
+    for (row, expected) in rows {
+        assert_eq!(rt; answer(alloc, b"edge", row)?.as_str(), expected);
+    }
+    Ok(())
+}
+
+#[test]
+fn scheme_and_attribute_have_their_letters(rt: HostRuntime) -> Result<(), Fail> {
+    let alloc = rt.alloc();
+    let rows: [(&[u8], &[u8], &str); 9] = [
+        (b"scheme", b"", "Missing scheme"),
+        (b"scheme", b"\"scheme\":true", "Kind scheme"),
+        (b"scheme", b"\"scheme\":\"ftp\"", "Range scheme"),
+        (b"scheme", b"\"scheme\":\"HTTP\"", "Range scheme"),
+        (b"scheme", b"\"scheme\":\"https\"", "read"),
+        (b"attribute", b"\"attribute\":1", "Kind attribute"),
+        (b"attribute", b"\"attribute\":\"\"", "Range attribute"),
+        (b"attribute", b"\"attribute\":\"a.b\"", "Range attribute"),
+        (b"attribute", b"\"attribute\":\"a-_0\"", "read"),
     ];
     for (name, row, expected) in rows {
         assert_eq!(rt; answer(alloc, name, row)?.as_str(), expected);
@@ -123,92 +136,100 @@ fn names_are_tried_first(rt: HostRuntime) -> Result<(), Fail> {
 }
 
 #[test]
-fn keys_are_tried_one_after_the_other(rt: HostRuntime) -> Result<(), Fail> {
+fn a_key_has_its_members(rt: HostRuntime) -> Result<(), Fail> {
     let alloc = rt.alloc();
-    let rows = [
-        ("{}", "Kind keys"),
-        ("[]", "Range keys"),
-        ("[1]", "Kind keys"),
-        ("[{}]", "Missing kid"),
-        ("[{\"kid\":1}]", "Kind kid"),
-        ("[{\"kid\":\"\"}]", "Range kid"),
-        ("[{\"kid\":\"a b\"}]", "Range kid"),
-        ("[{\"kid\":\"k1\"}]", "Missing issuer"),
-        ("[{\"kid\":\"k1\",\"issuer\":[]}]", "Kind issuer"),
-        ("[{\"kid\":\"k1\",\"issuer\":\"\\\\\"}]", "Range issuer"),
-        ("[{\"kid\":\"k1\",\"issuer\":\"cp\"}]", "Missing secret"),
+    let rows: [(&[u8], &str); 11] = [
+        (b"\"keys\":{}", "Kind keys"),
+        (b"\"keys\":[]", "Range keys"),
+        (b"\"keys\":[1]", "Kind keys"),
+        (b"\"keys\":[{}]", "Missing kid"),
+        (b"\"keys\":[{\"kid\":1}]", "Kind kid"),
+        (b"\"keys\":[{\"kid\":\"\"}]", "Range kid"),
+        (b"\"keys\":[{\"kid\":\"a b\"}]", "Range kid"),
+        (b"\"keys\":[{\"kid\":\"k1\"}]", "Missing issuer"),
+        (b"\"keys\":[{\"kid\":\"k1\",\"issuer\":[]}]", "Kind issuer"),
         (
-            "[{\"kid\":\"k1\",\"issuer\":\"cp\",\"secret\":1}]",
-            "Kind secret",
+            b"\"keys\":[{\"kid\":\"k1\",\"issuer\":\"\\\\\"}]",
+            "Range issuer",
         ),
         (
-            "[{\"kid\":\"k1\",\"issuer\":\"cp\",\"secret\":\"A\"}]",
-            "Range secret",
-        ),
-        (
-            "[{\"kid\":\"k1\",\"issuer\":\"cp\",\"secret\":\"AQ==\"}]",
-            "Range secret",
-        ),
-        (
-            "[{\"kid\":\"k1\",\"issuer\":\"cp\",\"secret\":\"\"}]",
-            "ShortKey k1",
-        ),
-        (
-            "[{\"kid\":\"k1\",\"issuer\":\"cp\",\"secret\":\"AQEBAQEBAQEBAQEBAQEBAQEBAQEBAQEBAQEBAQEBAQ\"}]",
-            "ShortKey k1",
-        ),
-        (
-            "[{\"kid\":\"k1\",\"issuer\":\"cp\",\"secret\":\"AQEBAQEBAQEBAQEBAQEBAQEBAQEBAQEBAQEBAQEBAQF\"}]",
-            "Range secret",
-        ),
-        (
-            "[{\"kid\":\"k1\",\"issuer\":\"cp\",\"secret\":\"AQEBAQEBAQEBAQEBAQEBAQEBAQEBAQEBAQEBAQEBAQEBAQEBAQEBAQEBAQEBAQEBAQEBAQEBAQEBAQEBAQEBAQ\"}]",
-            "read",
-        ),
-        (
-            "[{\"kid\":\"k1\",\"issuer\":\"cp\",\"secret\":\"AQEBAQEBAQEBAQEBAQEBAQEBAQEBAQEBAQEBAQEBAQEBAQEBAQEBAQEBAQEBAQEBAQEBAQEBAQEBAQEBAQEBAQE\"}]",
-            "Range secret",
+            b"\"keys\":[{\"kid\":\"k1\",\"issuer\":\"cp\"}]",
+            "Missing secret",
         ),
     ];
-    for (list, expected) in rows {
-        let row = format!(in alloc; "\"keys\":{list}")?;
-        assert_eq!(rt; answer(alloc, "keys", row.as_str())?.as_str(), expected);
+    for (row, expected) in rows {
+        assert_eq!(rt; answer(alloc, b"keys", row)?.as_str(), expected);
     }
     Ok(())
 }
 
-// A list of keys of those names, all with one issuer and one secret.
-fn keys_named(alloc: Global, kids: &[&str]) -> Result<String, Fail> {
-    let mut text = String::from_str(alloc, "\"keys\":[")?;
-    let mut behind = false;
-    for kid in kids {
-        if behind {
-            text.push_str(",")?;
-        }
-        behind = true;
-        text.push_str("{\"kid\":\"")?;
-        text.push_str(*kid)?;
-        text.push_str(
-            "\",\"issuer\":\"cp\",\"secret\":\"AQEBAQEBAQEBAQEBAQEBAQEBAQEBAQEBAQEBAQEBAQE\"}",
-        )?;
+#[test]
+fn a_secret_is_base64url_of_32_to_64_bytes(rt: HostRuntime) -> Result<(), Fail> {
+    let alloc = rt.alloc();
+    let rows: [(&[u8], &str); 8] = [
+        (b"1", "Kind secret"),
+        (b"\"A\"", "Range secret"),
+        (b"\"AQ==\"", "Range secret"),
+        (b"\"\"", "ShortKey k1"),
+        (
+            b"\"AQEBAQEBAQEBAQEBAQEBAQEBAQEBAQEBAQEBAQEBAQ\"",
+            "ShortKey k1",
+        ),
+        (
+            b"\"AQEBAQEBAQEBAQEBAQEBAQEBAQEBAQEBAQEBAQEBAQF\"",
+            "Range secret",
+        ),
+        (
+            b"\"AQEBAQEBAQEBAQEBAQEBAQEBAQEBAQEBAQEBAQEBAQEBAQEBAQEBAQEBAQEBAQEBAQEBAQEBAQEBAQEBAQEBAQ\"",
+            "read",
+        ),
+        (
+            b"\"AQEBAQEBAQEBAQEBAQEBAQEBAQEBAQEBAQEBAQEBAQEBAQEBAQEBAQEBAQEBAQEBAQEBAQEBAQEBAQEBAQEBAQE\"",
+            "Range secret",
+        ),
+    ];
+    for (secret, expected) in rows {
+        let front = b"\"keys\":[{\"kid\":\"k1\",\"issuer\":\"cp\",\"secret\":";
+        let row = joined(alloc, &[front, secret, b"}]"])?;
+        assert_eq!(rt; answer(alloc, b"keys", &row)?.as_str(), expected);
     }
-    text.push_str("]")?;
-    Ok(text)
+    Ok(())
+}
+
+// A key of that name, with a comma before it.
+fn add_key(keys: &mut Vec<u8>, kid: &[u8]) -> Result<(), Fail> {
+    keys.extend_from_slice(b",{\"kid\":\"")?;
+    keys.extend_from_slice(kid)?;
+    keys.extend_from_slice(
+        b"\",\"issuer\":\"cp\",\"secret\":\"AQEBAQEBAQEBAQEBAQEBAQEBAQEBAQEBAQEBAQEBAQE\"}",
+    )?;
+    Ok(())
+}
+
+// A list of a key `k1` and keys of those names.
+fn keys_named(alloc: Global, kids: &[&[u8]]) -> Result<Vec<u8>, Fail> {
+    let mut keys = Vec::new(alloc);
+    for kid in kids {
+        add_key(&mut keys, *kid)?;
+    }
+    let front =
+        b"\"keys\":[{\"kid\":\"k1\",\"issuer\":\"cp\",\"secret\":\"AQEBAQEBAQEBAQEBAQEBAQEBAQEBAQEBAQEBAQEBAQE\"}";
+    joined(alloc, &[front, &keys, b"]"])
 }
 
 #[test]
 fn two_keys_have_two_names(rt: HostRuntime) -> Result<(), Fail> {
     let alloc = rt.alloc();
-    let rows: [(&[&str], &str); 5] = [
-        (&["k1", "k2"], "read"),
-        (&["k1", "k1"], "Repeat kid"),
-        (&["k1", "k2", "k1"], "Repeat kid"),
-        (&["k1", "k1", ""], "Range kid"),
-        (&["k2"], "Range sign_kid"),
+    let rows: [(&[&[u8]], &str); 5] = [
+        (&[], "read"),
+        (&[b"k2"], "read"),
+        (&[b"k1"], "Repeat kid"),
+        (&[b"k2", b"k1"], "Repeat kid"),
+        (&[b"k1", b""], "Range kid"),
     ];
     for (kids, expected) in rows {
         let row = keys_named(alloc, kids)?;
-        assert_eq!(rt; answer(alloc, "keys", row.as_str())?.as_str(), expected);
+        assert_eq!(rt; answer(alloc, b"keys", &row)?.as_str(), expected);
     }
     Ok(())
 }
@@ -216,21 +237,17 @@ fn two_keys_have_two_names(rt: HostRuntime) -> Result<(), Fail> {
 #[test]
 fn the_own_key_has_an_accepted_issuer(rt: HostRuntime) -> Result<(), Fail> {
     let alloc = rt.alloc();
-    let rows = [
-        ("keys", "", "Missing keys"),
-        ("issuers", "\"issuers\":{}", "Kind issuers"),
-        ("issuers", "\"issuers\":[1]", "Kind issuers"),
-        ("issuers", "\"issuers\":[\"\"]", "Range issuers"),
-        ("issuers", "", "Range sign_kid"),
-        ("issuers", "\"issuers\":[\"cdn\"]", "Range sign_kid"),
-        ("issuers", "\"issuers\":[\"cdn\",\"cp\"]", "read"),
-        ("audience", "\"audience\":\"e\"", "Kind audience"),
-        ("audience", "\"audience\":[null]", "Kind audience"),
-        ("audience", "\"audience\":[\"e\",\"a b\"]", "Range audience"),
-        ("audience", "", "read"),
-        ("sign_kid", "", "Missing sign_kid"),
-        ("sign_kid", "\"sign_kid\":1", "Kind sign_kid"),
-        ("sign_kid", "\"sign_kid\":\"k2\"", "Range sign_kid"),
+    let rows: [(&[u8], &[u8], &str); 10] = [
+        (b"keys", b"", "Missing keys"),
+        (b"issuers", b"\"issuers\":{}", "Kind issuers"),
+        (b"issuers", b"\"issuers\":[1]", "Kind issuers"),
+        (b"issuers", b"\"issuers\":[\"\"]", "Range issuers"),
+        (b"issuers", b"", "Range sign_kid"),
+        (b"issuers", b"\"issuers\":[\"cdn\"]", "Range sign_kid"),
+        (b"issuers", b"\"issuers\":[\"cdn\",\"cp\"]", "read"),
+        (b"sign_kid", b"", "Missing sign_kid"),
+        (b"sign_kid", b"\"sign_kid\":1", "Kind sign_kid"),
+        (b"sign_kid", b"\"sign_kid\":\"k2\"", "Range sign_kid"),
     ];
     for (name, row, expected) in rows {
         assert_eq!(rt; answer(alloc, name, row)?.as_str(), expected);
@@ -239,250 +256,305 @@ fn the_own_key_has_an_accepted_issuer(rt: HostRuntime) -> Result<(), Fail> {
 }
 
 #[test]
-fn the_room_is_a_whole_number(rt: HostRuntime) -> Result<(), Fail> {
+fn the_audience_is_a_list_of_identities(rt: HostRuntime) -> Result<(), Fail> {
     let alloc = rt.alloc();
-    let rows = [
-        ("\"room\":\"1\"", "Kind room"),
-        ("\"room\":null", "Kind room"),
-        ("\"room\":0", "Range room"),
-        ("\"room\":1", "read"),
-        ("\"room\":65536", "read"),
-        ("\"room\":65537", "Range room"),
-        ("\"room\":-1", "Range room"),
-        ("\"room\":-0", "Range room"),
-        ("\"room\":1.0", "Range room"),
-        ("\"room\":1e1", "Range room"),
-        ("\"room\":18446744073709551616", "Range room"),
-        ("\"enforce\":1", "Kind enforce"),
-        ("\"enforce\":false", "Range enforce"),
-        ("\"enforce\":true", "read"),
-        ("\"room\":0,\"enforce\":false", "Range room"),
+    let rows: [(&[u8], &str); 5] = [
+        (b"", "read"),
+        (b"\"audience\":\"e\"", "Kind audience"),
+        (b"\"audience\":[null]", "Kind audience"),
+        (b"\"audience\":[\"e\",\"a b\"]", "Range audience"),
+        (b"\"audience\":[]", "read"),
     ];
     for (row, expected) in rows {
-        assert_eq!(rt; answer(alloc, "room", row)?.as_str(), expected);
+        assert_eq!(rt; answer(alloc, b"audience", row)?.as_str(), expected);
     }
     Ok(())
 }
 
 #[test]
-fn an_extension_has_the_setting_of_its_test(rt: HostRuntime) -> Result<(), Fail> {
+fn the_room_is_a_whole_number(rt: HostRuntime) -> Result<(), Fail> {
     let alloc = rt.alloc();
-    let rows = [
-        ("{}", "Kind extensions"),
-        ("[1]", "Kind extensions"),
-        ("[]", "read"),
-        ("[{}]", "Missing claim"),
-        ("[{\"claim\":1}]", "Kind claim"),
-        ("[{\"claim\":\"exp\"}]", "Range claim"),
-        ("[{\"claim\":\"cdnistd\"}]", "Range claim"),
-        ("[{\"claim\":\"x\"}]", "Missing test"),
-        ("[{\"claim\":\"x\",\"test\":1}]", "Kind test"),
-        ("[{\"claim\":\"x\",\"test\":\"Any\"}]", "Range test"),
-        ("[{\"claim\":\"x\",\"test\":\"any\"}]", "Missing setting"),
+    let rows: [(&[u8], &str); 11] = [
+        (b"\"room\":\"1\"", "Kind room"),
+        (b"\"room\":null", "Kind room"),
+        (b"\"room\":0", "Range room"),
+        (b"\"room\":1", "read"),
+        (b"\"room\":65536", "read"),
+        (b"\"room\":65537", "Range room"),
+        (b"\"room\":-1", "Range room"),
+        (b"\"room\":-0", "Range room"),
+        (b"\"room\":1.0", "Range room"),
+        (b"\"room\":1e1", "Range room"),
+        (b"\"room\":18446744073709551616", "Range room"),
+    ];
+    for (row, expected) in rows {
+        assert_eq!(rt; answer(alloc, b"room", row)?.as_str(), expected);
+    }
+    Ok(())
+}
+
+#[test]
+fn enforcement_is_on(rt: HostRuntime) -> Result<(), Fail> {
+    let alloc = rt.alloc();
+    let rows: [(&[u8], &str); 4] = [
+        (b"\"enforce\":1", "Kind enforce"),
+        (b"\"enforce\":false", "Range enforce"),
+        (b"\"enforce\":true", "read"),
+        (b"\"room\":0,\"enforce\":false", "Range room"),
+    ];
+    for (row, expected) in rows {
+        assert_eq!(rt; answer(alloc, b"enforce", row)?.as_str(), expected);
+    }
+    Ok(())
+}
+
+#[test]
+fn an_extension_has_its_members(rt: HostRuntime) -> Result<(), Fail> {
+    let alloc = rt.alloc();
+    let rows: [(&[u8], &str); 11] = [
+        (b"\"extensions\":{}", "Kind extensions"),
+        (b"\"extensions\":[1]", "Kind extensions"),
+        (b"\"extensions\":[]", "read"),
+        (b"\"extensions\":[{}]", "Missing claim"),
+        (b"\"extensions\":[{\"claim\":1}]", "Kind claim"),
+        (b"\"extensions\":[{\"claim\":\"exp\"}]", "Range claim"),
+        (b"\"extensions\":[{\"claim\":\"cdnistd\"}]", "Range claim"),
+        (b"\"extensions\":[{\"claim\":\"x\"}]", "Missing test"),
         (
-            "[{\"claim\":\"\",\"test\":\"any\",\"setting\":null}]",
+            b"\"extensions\":[{\"claim\":\"x\",\"test\":1}]",
+            "Kind test",
+        ),
+        (
+            b"\"extensions\":[{\"claim\":\"x\",\"test\":\"Any\"}]",
+            "Range test",
+        ),
+        (
+            b"\"extensions\":[{\"claim\":\"\",\"test\":\"any\"}]",
+            "Missing setting",
+        ),
+    ];
+    for (row, expected) in rows {
+        assert_eq!(rt; answer(alloc, b"extensions", row)?.as_str(), expected);
+    }
+    Ok(())
+}
+
+#[test]
+fn a_setting_has_the_shape_of_its_test(rt: HostRuntime) -> Result<(), Fail> {
+    let alloc = rt.alloc();
+    let rows: [(&[u8], &[u8], &str); 15] = [
+        (b"any", b"null", "read"),
+        (b"any", b"1", "Kind setting"),
+        (b"equals", b"null", "Kind setting"),
+        (b"equals", b"\"yes\"", "read"),
+        (b"one_of", b"\"a\"", "Kind setting"),
+        (b"one_of", b"[\"a\",1]", "Kind setting"),
+        (b"one_of", b"[\"a\",\"b\"]", "read"),
+        (b"one_of", b"[]", "read"),
+        (b"at_most", b"\"1\"", "Kind setting"),
+        (b"at_most", b"-1", "Range setting"),
+        (b"at_most", b"1.0", "Range setting"),
+        (b"at_most", b"9007199254740992", "Range setting"),
+        (b"at_most", b"9007199254740991", "read"),
+        (b"path_prefix", b"\"/\"", "Kind setting"),
+        (b"path_prefix", b"null", "read"),
+    ];
+    for (test, setting, expected) in rows {
+        let front = b"\"extensions\":[{\"claim\":\"x\",\"test\":\"";
+        let row = joined(alloc, &[front, test, b"\",\"setting\":", setting, b"}]"])?;
+        assert_eq!(rt; answer(alloc, b"extensions", &row)?.as_str(), expected);
+    }
+    Ok(())
+}
+
+#[test]
+fn two_extensions_are_of_two_claims(rt: HostRuntime) -> Result<(), Fail> {
+    let alloc = rt.alloc();
+    let x = b"{\"claim\":\"x\",\"test\":\"any\",\"setting\":null},";
+    let y = b"{\"claim\":\"y\",\"test\":\"any\",\"setting\":null},";
+    let rows: [(&[u8], &[u8], &[u8], &str); 4] = [
+        (
+            x,
+            y,
+            b"{\"claim\":\"z\",\"test\":\"any\",\"setting\":null}",
             "read",
         ),
         (
-            "[{\"claim\":\"x\",\"test\":\"any\",\"setting\":1}]",
-            "Kind setting",
-        ),
-        (
-            "[{\"claim\":\"x\",\"test\":\"equals\",\"setting\":null}]",
-            "Kind setting",
-        ),
-        (
-            "[{\"claim\":\"x\",\"test\":\"equals\",\"setting\":\"yes\"}]",
-            "read",
-        ),
-        (
-            "[{\"claim\":\"x\",\"test\":\"one_of\",\"setting\":\"a\"}]",
-            "Kind setting",
-        ),
-        (
-            "[{\"claim\":\"x\",\"test\":\"one_of\",\"setting\":[\"a\",1]}]",
-            "Kind setting",
-        ),
-        (
-            "[{\"claim\":\"x\",\"test\":\"one_of\",\"setting\":[\"a\",\"b\"]}]",
-            "read",
-        ),
-        (
-            "[{\"claim\":\"x\",\"test\":\"at_most\",\"setting\":\"1\"}]",
-            "Kind setting",
-        ),
-        (
-            "[{\"claim\":\"x\",\"test\":\"at_most\",\"setting\":-1}]",
-            "Range setting",
-        ),
-        (
-            "[{\"claim\":\"x\",\"test\":\"at_most\",\"setting\":1.0}]",
-            "Range setting",
-        ),
-        (
-            "[{\"claim\":\"x\",\"test\":\"at_most\",\"setting\":9007199254740992}]",
-            "Range setting",
-        ),
-        (
-            "[{\"claim\":\"x\",\"test\":\"at_most\",\"setting\":9007199254740991}]",
-            "read",
-        ),
-        (
-            "[{\"claim\":\"x\",\"test\":\"path_prefix\",\"setting\":\"/\"}]",
-            "Kind setting",
-        ),
-        (
-            "[{\"claim\":\"x\",\"test\":\"path_prefix\",\"setting\":null}]",
-            "read",
-        ),
-        (
-            "[{\"claim\":\"x\",\"test\":\"any\",\"setting\":null},{\"claim\":\"y\",\"test\":\"any\",\"setting\":null},{\"claim\":\"x\",\"test\":\"any\",\"setting\":null}]",
+            x,
+            y,
+            b"{\"claim\":\"x\",\"test\":\"any\",\"setting\":null}",
             "Repeat claim",
         ),
         (
-            "[{\"claim\":\"x\",\"test\":\"any\",\"setting\":null},{\"claim\":\"x\",\"test\":\"any\",\"setting\":null},{}]",
-            "Missing claim",
+            y,
+            y,
+            b"{\"claim\":\"x\",\"test\":\"any\",\"setting\":null}",
+            "Repeat claim",
         ),
+        (x, x, b"{}", "Missing claim"),
     ];
-    for (list, expected) in rows {
-        let row = format!(in alloc; "\"extensions\":{list}")?;
-        assert_eq!(rt;
-            answer(alloc, "extensions", row.as_str())?.as_str(),
-            expected
-        );
+    for (one, two, three, expected) in rows {
+        let row = joined(alloc, &[b"\"extensions\":[", one, two, three, b"]"])?;
+        assert_eq!(rt; answer(alloc, b"extensions", &row)?.as_str(), expected);
     }
     Ok(())
 }
 
-const SECRET: &str =
-    "\"kid\":\"k2\",\"issuer\":\"cp\",\"secret\":\"AQEBAQEBAQEBAQEBAQEBAQEBAQEBAQEBAQEBAQEBAQE\"";
+// The members of a route, but for its audience.
+const PLACED: &[u8] = b"\"prefix\":\"/v\",\"scheme\":\"http\",\"authority\":\"h\"";
+
+// Those of its key.
+const KEYED: &[u8] =
+    b",\"kid\":\"k2\",\"issuer\":\"cp\",\"secret\":\"AQEBAQEBAQEBAQEBAQEBAQEBAQEBAQEBAQEBAQEBAQE\"";
 
 #[test]
-fn a_route_has_a_place_a_key_and_an_audience(rt: HostRuntime) -> Result<(), Fail> {
+fn a_route_has_a_prefix_and_a_place(rt: HostRuntime) -> Result<(), Fail> {
     let alloc = rt.alloc();
-    let rows = [
-        ("", "", "Missing prefix"),
-        ("\"prefix\":1", "", "Kind prefix"),
-        ("\"prefix\":\"\"", "", "Range prefix"),
-        ("\"prefix\":\"v\"", "", "Range prefix"),
-        ("\"prefix\":\"/\\u00e9\"", "", "Range prefix"),
-        ("\"prefix\":\"/v\"", "", "Missing scheme"),
-        ("\"prefix\":\"/v\",\"scheme\":1", "", "Kind scheme"),
+    let rows: [(&[u8], &[u8], &[u8], &str); 11] = [
+        (b"", b"", b"", "Missing prefix"),
+        (b"\"prefix\":1", b"", b"", "Kind prefix"),
+        (b"\"prefix\":\"\"", b"", b"", "Range prefix"),
+        (b"\"prefix\":\"v\"", b"", b"", "Range prefix"),
+        (b"\"prefix\":\"/\\u00e9\"", b"", b"", "Range prefix"),
+        (b"\"prefix\":\"/v\"", b"", b"", "Missing scheme"),
+        (b"\"prefix\":\"/v\",\"scheme\":1", b"", b"", "Kind scheme"),
         (
-            "\"prefix\":\"/v\",\"scheme\":\"http\"",
-            "",
+            b"\"prefix\":\"/v\",\"scheme\":\"http\"",
+            b"",
+            b"",
             "Missing authority",
         ),
         (
-            "\"prefix\":\"/v\",\"scheme\":\"http\",\"authority\":1",
-            "",
+            b"\"prefix\":\"/v\",\"scheme\":\"http\",\"authority\":1",
+            b"",
+            b"",
             "Kind authority",
         ),
         (
-            "\"prefix\":\"/v\",\"scheme\":\"ftp\",\"authority\":\"h\"",
-            "",
+            b"\"prefix\":\"/v\",\"scheme\":\"ftp\",\"authority\":\"h\"",
+            b"",
+            b"",
             "Range authority",
         ),
         (
-            "\"prefix\":\"/v\",\"scheme\":\"http\",\"authority\":\"h/x\"",
-            "",
+            b"\"prefix\":\"/v\",\"scheme\":\"http\",\"authority\":\"h/x\"",
+            b"",
+            b"",
             "Range authority",
         ),
+    ];
+    for (place, key, audience, expected) in rows {
+        let row = joined(alloc, &[b"\"routes\":[{", place, key, audience, b"}]"])?;
+        assert_eq!(rt; answer(alloc, b"routes", &row)?.as_str(), expected);
+    }
+    Ok(())
+}
+
+#[test]
+fn a_route_has_a_key_and_an_audience(rt: HostRuntime) -> Result<(), Fail> {
+    let alloc = rt.alloc();
+    let rows: [(&[u8], &[u8], &[u8], &str); 7] = [
+        (PLACED, b"", b"", "Missing kid"),
         (
-            "\"prefix\":\"/v\",\"scheme\":\"http\",\"authority\":\"u@h\"",
-            "",
-            "Range authority",
-        ),
-        (
-            "\"prefix\":\"/v\",\"scheme\":\"http\",\"authority\":\"h\"",
-            "",
-            "Missing kid",
-        ),
-        (
-            "\"prefix\":\"/v\",\"scheme\":\"http\",\"authority\":\"h\",\"kid\":\"k2\",\"issuer\":\"cp\",\"secret\":\"AQ\"",
-            "",
+            PLACED,
+            b",\"kid\":\"k2\",\"issuer\":\"cp\",\"secret\":\"AQ\"",
+            b"",
             "ShortKey k2",
         ),
+        (PLACED, KEYED, b"", "Missing audience"),
+        (PLACED, KEYED, b",\"audience\":{}", "Kind audience"),
+        (PLACED, KEYED, b",\"audience\":\"\"", "Range audience"),
+        (PLACED, KEYED, b",\"audience\":\"b\"", "read"),
         (
-            "\"prefix\":\"/v\",\"scheme\":\"http\",\"authority\":\"h\"",
-            SECRET,
-            "Missing audience",
-        ),
-        (
-            "\"prefix\":\"/v\",\"scheme\":\"http\",\"authority\":\"h\",\"audience\":{}",
-            SECRET,
-            "Kind audience",
-        ),
-        (
-            "\"prefix\":\"/v\",\"scheme\":\"http\",\"authority\":\"h\",\"audience\":\"\"",
-            SECRET,
-            "Range audience",
-        ),
-        (
-            "\"prefix\":\"/v\",\"scheme\":\"HTTP\",\"authority\":\"H:80\",\"audience\":\"b\"",
-            SECRET,
+            b"\"prefix\":\"/v\",\"scheme\":\"HTTP\",\"authority\":\"H:80\"",
+            KEYED,
+            b",\"audience\":\"b\"",
             "read",
         ),
     ];
-    for (front, back, expected) in rows {
-        let between = if back.is_empty() { "" } else { "," };
-        let row = format!(in alloc; "\"routes\":[{{{front}{between}{back}}}]")?;
-        assert_eq!(rt; answer(alloc, "routes", row.as_str())?.as_str(), expected);
+    for (place, key, audience, expected) in rows {
+        let row = joined(alloc, &[b"\"routes\":[{", place, key, audience, b"}]"])?;
+        assert_eq!(rt; answer(alloc, b"routes", &row)?.as_str(), expected);
     }
     Ok(())
+}
+
+// So many of the same element with commas between them.
+fn repeated(alloc: Global, element: &[u8], count: usize) -> Result<Vec<u8>, Fail> {
+    let mut text = Vec::from_slice(alloc, element)?;
+    for _ in 1..count {
+        text.push(b',')?;
+        text.extend_from_slice(element)?;
+    }
+    Ok(text)
+}
+
+// A member that is a list of so many of the same element.
+fn list_row(alloc: Global, name: &[u8], element: &[u8], count: usize) -> Result<Vec<u8>, Fail> {
+    let list = repeated(alloc, element, count)?;
+    joined(alloc, &[b"\"", name, b"\":[", &list, b"]"])
+}
+
+// So many letters between two texts.
+fn long_row(alloc: Global, front: &[u8], count: usize, back: &[u8]) -> Result<Vec<u8>, Fail> {
+    let middle = vec![in alloc; b'a'; count]?;
+    joined(alloc, &[front, &middle, back])
 }
 
 #[test]
 fn the_length_is_tried_before_the_elements(rt: HostRuntime) -> Result<(), Fail> {
     let alloc = rt.alloc();
-    let rows = [
-        ("keys", "1", 64, "Kind keys"),
-        ("keys", "1", 65, "Range keys"),
-        ("issuers", "\"cp\"", 64, "read"),
-        ("issuers", "1", 65, "Range issuers"),
-        ("audience", "\"e\"", 64, "read"),
-        ("audience", "1", 65, "Range audience"),
-        ("extensions", "1", 32, "Kind extensions"),
-        ("extensions", "1", 33, "Range extensions"),
-        ("routes", "1", 16, "Kind routes"),
-        ("routes", "1", 17, "Range routes"),
+    let rows: [(&[u8], &[u8], usize, &str); 10] = [
+        (b"keys", b"1", 64, "Kind keys"),
+        (b"keys", b"1", 65, "Range keys"),
+        (b"issuers", b"\"cp\"", 64, "read"),
+        (b"issuers", b"1", 65, "Range issuers"),
+        (b"audience", b"\"e\"", 64, "read"),
+        (b"audience", b"1", 65, "Range audience"),
+        (b"extensions", b"1", 32, "Kind extensions"),
+        (b"extensions", b"1", 33, "Range extensions"),
+        (b"routes", b"1", 16, "Kind routes"),
+        (b"routes", b"1", 17, "Range routes"),
     ];
     for (name, element, count, expected) in rows {
-        let list = list_of(alloc, element, count)?;
-        let row = format!(in alloc; "\"{name}\":{list}")?;
-        assert_eq!(rt; answer(alloc, name, row.as_str())?.as_str(), expected);
+        let row = list_row(alloc, name, element, count)?;
+        assert_eq!(rt; answer(alloc, name, &row)?.as_str(), expected);
     }
     Ok(())
-}
-
-// So many of one letter in quotes, behind a front.
-fn long_text(alloc: Global, name: &str, front: &str, count: usize) -> Result<String, Fail> {
-    let mut text = format!(in alloc; "\"{name}\":\"{front}")?;
-    for _ in 0..count {
-        text.push_str("a")?;
-    }
-    text.push_str("\"")?;
-    Ok(text)
 }
 
 #[test]
 fn texts_have_their_longest(rt: HostRuntime) -> Result<(), Fail> {
     let alloc = rt.alloc();
-    let rows = [
-        ("edge", 128, "read"),
-        ("edge", 129, "Range edge"),
-        ("attribute", 64, "read"),
-        ("attribute", 65, "Range attribute"),
+    let rows: [(&[u8], &[u8], usize, &[u8], &str); 6] = [
+        (b"edge", b"\"edge\":\"", 128, b"\"", "read"),
+        (b"edge", b"\"edge\":\"", 129, b"\"", "Range edge"),
+        (b"attribute", b"\"attribute\":\"", 64, b"\"", "read"),
+        (
+            b"attribute",
+            b"\"attribute\":\"",
+            65,
+            b"\"",
+            "Range attribute",
+        ),
+        (
+            b"routes",
+            b"\"routes\":[{\"prefix\":\"/",
+            1023,
+            b"\"}]",
+            "Missing scheme",
+        ),
+        (
+            b"routes",
+            b"\"routes\":[{\"prefix\":\"/",
+            1024,
+            b"\"}]",
+            "Range prefix",
+        ),
     ];
-    for (name, count, expected) in rows {
-        let row = long_text(alloc, name, "", count)?;
-        assert_eq!(rt; answer(alloc, name, row.as_str())?.as_str(), expected);
-    }
-    let rows = [(1023, "Missing scheme"), (1024, "Range prefix")];
-    for (count, expected) in rows {
-        let prefix = long_text(alloc, "prefix", "/", count)?;
-        let row = format!(in alloc; "\"routes\":[{{{prefix}}}]")?;
-        assert_eq!(rt; answer(alloc, "routes", row.as_str())?.as_str(), expected);
+    for (name, front, count, back, expected) in rows {
+        let row = long_row(alloc, front, count, back)?;
+        assert_eq!(rt; answer(alloc, name, &row)?.as_str(), expected);
     }
     Ok(())
 }
@@ -491,14 +563,10 @@ fn texts_have_their_longest(rt: HostRuntime) -> Result<(), Fail> {
 fn a_text_has_at_most_127_levels(rt: HostRuntime) -> Result<(), Fail> {
     let alloc = rt.alloc();
     for (count, expected) in [(126, "read"), (127, "Json")] {
-        let mut row = String::from_str(alloc, "\"deep\":")?;
-        for _ in 0..count {
-            row.push_str("[")?;
-        }
-        for _ in 0..count {
-            row.push_str("]")?;
-        }
-        assert_eq!(rt; answer(alloc, "deep", row.as_str())?.as_str(), expected);
+        let opening = vec![in alloc; b'['; count]?;
+        let closing = vec![in alloc; b']'; count]?;
+        let row = joined(alloc, &[b"\"deep\":", &opening, &closing])?;
+        assert_eq!(rt; answer(alloc, b"deep", &row)?.as_str(), expected);
     }
     Ok(())
 }
@@ -572,9 +640,9 @@ fn is_told(setting: &Setting, words: &str, number: u64) -> bool {
 fn extensions_are_kept_in_their_order(rt: HostRuntime) -> Result<(), Fail> {
     let alloc = rt.alloc();
     let row =
-        "\"extensions\":[{\"claim\":\"x\",\"test\":\"equals\",\"setting\":\"yes\"},{\"claim\":\"y\",\"test\":\"at_most\",\"setting\":10}]";
-    let text = text_with(alloc, "extensions", row)?;
-    let conf = read_conf(alloc, text.as_bytes())?;
+        b"\"extensions\":[{\"claim\":\"x\",\"test\":\"equals\",\"setting\":\"yes\"},{\"claim\":\"y\",\"test\":\"at_most\",\"setting\":10}]";
+    let text = text_with(alloc, b"extensions", row)?;
+    let conf = read_conf(alloc, &text)?;
     let listed = conf.site().profile().extensions.listed();
     assert_eq!(rt; listed.len(), 2);
     assert_eq!(rt; listed[0].claim.text(), "x");
