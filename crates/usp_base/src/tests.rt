@@ -1,7 +1,7 @@
 // The forms in memory, each through its trait.
 use crate::{
     Failed, Files, ListedFiles, ListedSink, ListedSource, LoadFault, MemoryFile, Octets, Rows,
-    Sink, Source, SteadyFiles, SteadySink, SteadySource,
+    Sink, Source, SteadyFiles, SteadySink, SteadySource, trim_blanks,
 };
 use std::alloc::{AllocError, Global};
 use std::test::Fail;
@@ -99,5 +99,22 @@ fn small_types_keep_their_values(rt: HostRuntime) -> Result<(), Fail> {
     let mut numbers = Vec::new(alloc);
     numbers.push(7u64)?;
     assert_eq!(rt; Rows::of(numbers).rows().len(), 1);
+    Ok(())
+}
+
+#[test]
+fn spaces_and_tabs_go_from_both_ends(rt: HostRuntime) -> Result<(), Fail> {
+    let rows = [
+        ("a", "a"),
+        (" \ta b\t ", "a b"),
+        ("a \t b", "a \t b"),
+        ("\n a ", "\n a"),
+        ("\u{a0}a", "\u{a0}a"),
+        (" \t", ""),
+        ("", ""),
+    ];
+    for (text, expected) in rows {
+        assert_eq!(rt; trim_blanks(text.as_bytes()), expected.as_bytes(), "{text}");
+    }
     Ok(())
 }

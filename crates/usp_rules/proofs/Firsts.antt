@@ -1,5 +1,5 @@
 -- The first rule that fails, from the claims of a token out to the ask.
-use Rattle.std.proofs.Common.{IfOk, ◌≡◌, ◌⊎◌, inl, inr, ℕ, Bool, true, false, ◌||◌, List, [], ◌∷◌, ◌++◌, Option, Some, None, Result, Ok, Err, slice_get, refl, sym, ap, ◌∙◌, subst}
+use Rattle.std.proofs.Common.{IfOk, ◌≡◌, inl, inr, ℕ, true, false, ◌||◌, List, [], ◌∷◌, ◌++◌, Option, Some, None, Result, Ok, Err, slice_get, refl, sym, ap, ◌∙◌, subst}
 use Rattle.std.specs.Option.{is_some}
 use Rattle.std.specs.Result.{result_ok}
 use Rattle.usp_json.specs.declared.value.Members.{Members}
@@ -12,7 +12,7 @@ use Rattle.usp_uri.specs.Faults.{normal_of}
 use Rattle.usp_uri.specs.declared.fault.UriFault.{UriFault}
 use Rattle.usp_rules.specs.Asks.{AskValue, Presented, has_package, presented_in}
 use Rattle.usp_rules.specs.Constraints.{IsContained}
-use Rattle.usp_rules.specs.Judging.{Judges, JudgesBy, JudgesWith, PassesWith, Tells}
+use Rattle.usp_rules.specs.Judging.{Judges, JudgesBy, JudgesWith, PassesWith}
 use Rattle.usp_rules.specs.Rules.{HoldsWith, IsFirst, Meets, OfToken, TokenHolds, Wants, constraints, rules_of_package, rules_of_parts, rules_of_token}
 use Rattle.usp_rules.specs.Tokens.{Claims, HasClaims, HasHeader, HasParts, IsVerified, verifying}
 use Rattle.usp_rules.specs.declared.fault.NoMemory.{NoMemory}
@@ -84,9 +84,10 @@ pub of_token : (profile : Profile) (ask : AskValue) (pack : Package) (shown : Pr
 of_token profile ask pack shown (Err e) presents brings h = h
 of_token profile ask pack shown (Ok (Denied denied)) presents brings h =
     inl (brings, subst (λ o. IsFirst (λ r. OfToken (TokenHolds r profile) o) rules_of_token (Some denied)) (sym presents) h)
-of_token profile ask pack shown (Ok (Passed content token members place)) presents brings h =
-    (inl (brings, subst (λ o. IsFirst (λ r. OfToken (TokenHolds r profile) o) rules_of_token None) (sym presents) h.0),
-     record { shown = shown; presents = presents; tells = h.1 })
+of_token profile ask pack shown (Ok (Passed content token members place)) presents brings h = (
+  inl (brings, subst (λ o. IsFirst (λ r. OfToken (TokenHolds r profile) o) rules_of_token None) (sym presents) h.0),
+  record { shown = shown; presents = presents; tells = h.1 },
+)
 
 -- an ask without a package, and with a cookie or without one
 pub of_cookie : (profile : Profile) (ask : AskValue) (token uri : List ℕ) (judged : Result Judged NoMemory) (moment : ℕ)
@@ -117,9 +118,10 @@ pub of_package : (profile : Profile) (ask : AskValue) (pack : Package) (uri : Li
 of_package profile ask pack uri (Err e) normal is h = h
 of_package profile ask pack uri (Ok (Denied denied)) normal is h =
     inl ((uri, normal), subst (λ p. IsFirst (λ r. HoldsWith r profile ask p) rules_of_package (Some denied)) is h)
-of_package profile ask pack uri (Ok (Passed content token members place)) normal is h =
-    (inl ((uri, normal), subst (λ p. IsFirst (λ r. HoldsWith r profile ask p) rules_of_package None) is h.0),
-     subst (λ p. PassesWith profile ask p content token members place) is h.1)
+of_package profile ask pack uri (Ok (Passed content token members place)) normal is h = (
+  inl ((uri, normal), subst (λ p. IsFirst (λ r. HoldsWith r profile ask p) rules_of_package None) is h.0),
+  subst (λ p. PassesWith profile ask p content token members place) is h.1,
+)
 
 no_normal : (n : Result (List ℕ) UriFault) → result_ok n ≡ None → ((uri : List ℕ) × (n ≡ Ok uri)) → ⊥
 no_normal (Ok uri) e has = let differ : Some uri ≡ None = e in cc
@@ -138,9 +140,9 @@ pub claims_denied : (profile : Profile) (token : List ℕ) (content : Option (Li
 claims_denied profile token content moment members place key issuer of found denied claims verified at i o is h =
     let shown : Presented = record { token = token; content = content; moment = moment } in
     let same : IsFirst (λ r. Wants r profile key.issuer members content moment) constraints (Some denied) =
-        subst (λ f. IsFirst (λ r. Wants r profile key.issuer members content moment) constraints f) is
-        (subst (λ x. IsFirst (λ r. Wants r profile key.issuer members x moment) constraints found) o
-        (subst (λ x. IsFirst (λ r. Wants r profile x members of moment) constraints found) i h)) in
+    subst (λ f. IsFirst (λ r. Wants r profile key.issuer members content moment) constraints f) is
+    (subst (λ x. IsFirst (λ r. Wants r profile key.issuer members x moment) constraints found) o
+    (subst (λ x. IsFirst (λ r. Wants r profile x members of moment) constraints found) i h)) in
     first_of_claims profile shown members place key (Some denied) claims verified at same
 
 pub claims_passed : (profile : Profile) (token : List ℕ) (content : Option (List ℕ)) (moment : ℕ) (members : Members) (place : ℕ) (key : KeyValue)
@@ -151,9 +153,9 @@ pub claims_passed : (profile : Profile) (token : List ℕ) (content : Option (Li
 claims_passed profile token content moment members place key issuer of found uri text claims verified at i o is there same h =
     let shown : Presented = record { token = token; content = content; moment = moment } in
     let all : IsFirst (λ r. Wants r profile key.issuer members content moment) constraints None =
-        subst (λ f. IsFirst (λ r. Wants r profile key.issuer members content moment) constraints f) is
-        (subst (λ x. IsFirst (λ r. Wants r profile key.issuer members x moment) constraints found) o
-        (subst (λ x. IsFirst (λ r. Wants r profile x members of moment) constraints found) i h)) in
+    subst (λ f. IsFirst (λ r. Wants r profile key.issuer members content moment) constraints f) is
+    (subst (λ x. IsFirst (λ r. Wants r profile key.issuer members x moment) constraints found) o
+    (subst (λ x. IsFirst (λ r. Wants r profile x members of moment) constraints found) i h)) in
     (first_of_claims profile shown members place key None claims verified at all, record { uri = there; text = sym same; claims = claims; verified = verified })
 
 contained_somewhere : (content : Option (List ℕ)) (members : Members) → IsContained content members → content ≡ None → ⊥
@@ -201,15 +203,22 @@ pub denied_by_signature : (profile : Profile) (parts : PartsValue) (content : Op
     → IsHeader parts.header kid → verifying profile.ring kid parts ≡ None
     → JudgesBy rules_of_parts profile (record { token = text_of parts; content = content; moment = moment }) (Denied rule.Signature)
 denied_by_signature profile parts content moment kid token header none =
-    inl ((kid, header_here parts kid token header),
-    inr (not_verified_at profile.ring (text_of parts) parts kid (record { short = token; whole = refl }) header none, refl))
+    inl (
+      (kid, header_here parts kid token header),
+      inr (not_verified_at profile.ring (text_of parts) parts kid (record { short = token; whole = refl }) header none, refl),
+    )
 
 pub denied_by_claims : (profile : Profile) (parts : PartsValue) (content : Option (List ℕ)) (moment : ℕ) (kid : Option (List ℕ)) (place : ℕ) → IsToken (text_of parts)
     → IsHeader parts.header kid → verifying profile.ring kid parts ≡ Some place → ((members : Members) → HasClaims parts.payload members → ⊥)
     → JudgesBy rules_of_parts profile (record { token = text_of parts; content = content; moment = moment }) (Denied rule.Claims)
 denied_by_claims profile parts content moment kid place token header first none =
-    inl ((kid, header_here parts kid token header), inl ((place, verified_here profile.ring parts kid place token header first),
-    inr (no_claims_at (text_of parts) parts (record { short = token; whole = refl }) none, refl)))
+    inl (
+      (kid, header_here parts kid token header),
+      inl (
+        (place, verified_here profile.ring parts kid place token header first),
+        inr (no_claims_at (text_of parts) parts (record { short = token; whole = refl }) none, refl),
+      ),
+    )
 
 pub judged_by_constraints : (profile : Profile) (parts : PartsValue) (content : Option (List ℕ)) (moment : ℕ) (kid : Option (List ℕ)) (place : ℕ) (members : Members)
     (judged : Result Judged NoMemory) → IsToken (text_of parts) → IsHeader parts.header kid → verifying profile.ring kid parts ≡ Some place → HasClaims parts.payload members

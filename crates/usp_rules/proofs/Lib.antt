@@ -4,3 +4,4 @@ pub mod Readings
 pub mod Single
 pub mod Firsts
 pub mod Wanted
+pub mod Verdicts

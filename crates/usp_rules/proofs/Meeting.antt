@@ -1,11 +1,10 @@
 -- Which contents a container meets.
-use Rattle.std.proofs.Common.{true, false, eqb, Bool, IsTrue, IfOk, Result, Ok, Err, ◌≡◌, ◌↔◌, ◌⊎◌, inl, inr, ℕ, ◌≤◌, ◌<◌, List, ◌++◌, codes, Option, Some, None, refl, get_or, sym, ap, ◌∙◌, subst, arith}
+use Rattle.std.proofs.Common.{true, false, eqb, Bool, IsTrue, IfOk, Result, Ok, Err, ◌≡◌, ◌↔◌, inl, inr, ℕ, ◌<◌, List, ◌++◌, codes, Some, None, get_or, sym, ap, ◌∙◌, subst, arith}
 use Rattle.usp_ere.specs.declared.fault.EreFault.{EreFault}
 use Rattle.usp_ere.specs.declared.fault.EreFault.TheVariants.{Syntax, Undefined, Repeat, TooLarge, NoMemory}
 use Rattle.usp_ere.specs.Compiled.{Compiles, IsRefusedFor}
 use Rattle.usp_ere.specs.Expression.{Expr, Finds, size_of}
 use Rattle.usp_ere.specs.Faults.{fault_of}
-use Rattle.usp_ere.specs.Grammar.{Spells}
 use Rattle.usp_ere.proofs.Reading.{one_tree}
 use Rattle.usp_ere.specs.declared.ere.Ere.{Ere}
 use Rattle.usp_ere.specs.Compiled.{expression_of}

@@ -1,20 +1,18 @@
 -- Headers and claims, against what refuses them.
-use Rattle.std.proofs.Common.{IfOk, MatchOption, ◌≡◌, ◌≢◌, ℕ, Bool, true, false, List, Option, Some, None, Result, Ok, Err, refl, sym, ap, ◌∙◌, subst}
+use Rattle.std.proofs.Common.{IfOk, MatchOption, ◌≡◌, ℕ, true, false, List, Option, Some, None, Result, Ok, Err, refl, sym, ap, ◌∙◌, subst}
 use Rattle.std.specs.Result.{result_ok}
-use Rattle.base64.specs.GeneralPurpose.{IsBytes, IsStrict, decode_of}
+use Rattle.base64.specs.GeneralPurpose.{IsBytes, decode_of}
 use Rattle.base64.specs.Engines.{url_safe_no_pad}
 use Rattle.base64.proofs.EngineFacts.{decode_of_iff}
 use Rattle.usp_claims.proofs.Refused.{no_claim_set}
 use Rattle.usp_claims.specs.Faults.{RefusesClaims}
 use Rattle.usp_claims.specs.declared.fault.ClaimFault.{ClaimFault}
-use Rattle.usp_claims.specs.declared.fault.ClaimFault.TheVariants as claim
 use Rattle.usp_json.specs.declared.value.Members.{Members}
 use Rattle.usp_jws.proofs.Once.{b64u_once}
 use Rattle.usp_jws.proofs.Parameters.{no_header as refused_header}
 use Rattle.usp_jws.specs.Base64url.{b64u}
 use Rattle.usp_jws.specs.Headers.{IsHeader, RefusesHeader}
 use Rattle.usp_jws.specs.declared.header.HeaderFault.{HeaderFault}
-use Rattle.usp_jws.specs.declared.header.HeaderFault.TheVariants as header
 use Rattle.usp_rules.specs.Memory.{claims_want_memory, header_wants_memory}
 use Rattle.usp_rules.specs.Tokens.{HasClaims, SpellsClaims}
 use Rattle.usp_rules.specs.declared.fault.NoMemory.{NoMemory}

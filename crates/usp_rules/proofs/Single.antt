@@ -1,5 +1,5 @@
 -- A token has one list of parts, one header, one key that verifies it, and one list of claims.
-use Rattle.std.proofs.Common.{◌≡◌, ℕ, List, Option, Some, None, refl, sym, ap, ◌∙◌, subst}
+use Rattle.std.proofs.Common.{◌≡◌, ℕ, List, Option, Some, sym, ap, ◌∙◌, subst}
 use Rattle.usp_json.proofs.FaultLaws.{reads_once}
 use Rattle.usp_json.specs.Spells.{IsReading, given}
 use Rattle.usp_json.specs.declared.value.Members.{Members}
@@ -10,7 +10,7 @@ use Rattle.usp_jws.specs.Base64url.{b64u}
 use Rattle.usp_jws.specs.Compact.{dots}
 use Rattle.usp_jws.specs.Headers.{IsHeader}
 use Rattle.usp_jws.specs.Keys.{KeyValue}
-use Rattle.usp_jws.specs.Parts.{PartsValue, text_of}
+use Rattle.usp_jws.specs.Parts.{PartsValue}
 use Rattle.usp_rules.specs.Tokens.{Claims, HasClaims, HasHeader, HasParts, IsVerified, verifying}
 
 -- the parts of a token by the bytes that they encode

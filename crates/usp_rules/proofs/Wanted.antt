@@ -1,5 +1,5 @@
 -- What the claims want, case by case.
-use Rattle.std.proofs.Common.{IfOk, IsTrue, ◌≡◌, ◌↔◌, ◌∙◌, ℕ, Bool, true, false, codes, List, [], ◌∷◌, map, cond, drop, length, get_or, ◌<◌, ◌≤◌, Option, Some, None, Result, Ok, Err, refl, sym, ap, subst}
+use Rattle.std.proofs.Common.{IfOk, IsTrue, ◌≡◌, ◌↔◌, ◌∙◌, ℕ, Bool, true, false, codes, List, [], ◌∷◌, map, drop, length, get_or, ◌<◌, ◌≤◌, Option, Some, None, Result, Ok, Err, refl, sym, ap, subst}
 use Rattle.std.proofs.lemmas.List.{drop_all}
 use Rattle.std.proofs.lemmas.Option.{slice_get-get_or}
 use Rattle.std.specs.List.{list_all, list_any}

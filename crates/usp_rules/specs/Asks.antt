@@ -1,6 +1,6 @@
 -- What an ask brings: a token, the content that it is to admit, and the moment.
-use Rattle.std.specs.Prelude.{ℕ, Bool, true, false, ◌||◌, List, Option, Some, None}
-use Rattle.std.specs.Option.{is_some, option_and_then, option_map}
+use Rattle.std.specs.Prelude.{ℕ, Bool, true, false, List, Option, Some, None}
+use Rattle.std.specs.Option.{option_and_then, option_map}
 use Rattle.std.specs.Result.{result_ok}
 use Rattle.usp_package.specs.Package.{Package, nothing, bad, carried, content_of, package_of}
 use Rattle.usp_uri.specs.Faults.{normal_of}

@@ -1,5 +1,5 @@
 -- What `judge` answers.
-use Rattle.std.specs.Prelude.{◌≡◌, ℕ, List, Option, Some, None}
+use Rattle.std.specs.Prelude.{◌≡◌, ℕ, List, Some, None}
 use Rattle.usp_json.specs.declared.value.Members.{Members}
 use Rattle.usp_package.specs.Package.{Package, package_of}
 use Rattle.usp_rules.specs.Asks.{AskValue, Presented, presented_in}

@@ -1,5 +1,5 @@
 -- The rules, in the order in which they are tried, and the first that fails (RFC 9246 sections 2 and 3).
-use Rattle.std.specs.Prelude.{◌≡◌, ◌⊎◌, ℕ, true, ◌||◌, List, [], ◌∷◌, Option, Some, None, Ok, slice_get}
+use Rattle.std.specs.Prelude.{◌≡◌, ◌⊎◌, ℕ, true, ◌||◌, List, [], ◌∷◌, ◌++◌, Option, Some, None, Ok, slice_get}
 use Rattle.std.specs.Option.{is_some}
 use Rattle.usp_json.specs.declared.value.Members.{Members}
 use Rattle.usp_jws.specs.Compact.{IsToken}
@@ -21,6 +21,14 @@ IsFirst Holds (rule ∷ rules) found = (Holds rule × IsFirst Holds rules found)
 abbrev pub AllHold : (Rule → Type 0) → List Rule → Type 0
 AllHold Holds [] = Unit {0}
 AllHold Holds (rule ∷ rules) = Holds rule × AllHold Holds rules
+
+-- The rule is listed and does not hold, and each rule listed before it does.
+pub record Breaks (Holds : Rule → Type 0) (rules : List Rule) (broken : Rule) : Type 0 where
+  pub before : List Rule
+  pub after : List Rule
+  pub listed : rules ≡ before ++ broken ∷ after
+  pub hold : AllHold Holds before
+  pub fails : Holds broken → ⊥
 
 -- What a rule wants of claims, where the key that verifies has this issuer.
 abbrev pub Wants : Rule → Profile → (issuer : List ℕ) → Members → (content : Option (List ℕ)) → (moment : ℕ) → Type 0

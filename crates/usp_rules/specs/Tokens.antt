@@ -1,5 +1,5 @@
 -- What a token says: its parts, its header, the key that verifies it, and its claims.
-use Rattle.std.specs.Prelude.{◌≡◌, ℕ, ◌≤◌, List, length, Option, Some, position, slice_get}
+use Rattle.std.specs.Prelude.{◌≡◌, ℕ, ◌≤◌, List, length, Option, Some, position}
 use Rattle.base64.specs.GeneralPurpose.{IsBytes}
 use Rattle.usp_claims.specs.Table.{IsClaimSet}
 use Rattle.usp_json.specs.Spells.{IsReading}

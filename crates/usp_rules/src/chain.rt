@@ -46,9 +46,15 @@ fn judge_claims(
     ensures { IfOk result (λ judged. JudgesBy constraints profile.now (record { token = text_of parts.now; content = content; moment = moment }) judged) }
 {
     let issuer = profile.ring.keys()[place].issuer();
-    if let Some(rule) =
-        first_failing(alloc, kit, profile, issuer, &claims, content.as_ref(), moment)?
-    {
+    if let Some(rule) = first_failing(
+        alloc,
+        kit,
+        profile,
+        issuer,
+        &claims,
+        content.as_ref(),
+        moment,
+    )? {
         return Ok(Judged::Denied(rule));
     }
     let Some(content) = content else {
@@ -164,5 +170,12 @@ pub fn judge(alloc: Global, kit: &Kit, profile: &Profile, ask: &Ask<'_>) -> Resu
     let Some(uri) = normal_form(alloc, ask.uri())? else {
         return Ok(Judged::Denied(Rule::Uri));
     };
-    judge_package(alloc, kit, profile, ask, uri, find(&profile.attribute, ask.uri()))
+    judge_package(
+        alloc,
+        kit,
+        profile,
+        ask,
+        uri,
+        find(&profile.attribute, ask.uri()),
+    )
 }

@@ -84,9 +84,7 @@ fn is_issued(issuers: &Rows<Text>, issuer: &[u8], claims: &Claims) -> bool
 fn has_identity(claims: &Claims, identity: &Text) -> bool
     ensures { result ≡ option_map_or (is_audience identity.now) (claim (codes "aud") claims.now) false }
 {
-    claims
-        .aud_has(identity.text().as_bytes())
-        .unwrap_or(false)
+    claims.aud_has(identity.text().as_bytes()).unwrap_or(false)
 }
 
 // Whether the audience is one of these identities, or lists one.
@@ -136,11 +134,7 @@ fn is_renewable(claims: &Claims) -> bool
     }
 }
 
-fn is_contained(
-    alloc: Global,
-    claims: &Claims,
-    content: Option<&Uri>,
-) -> Result<bool, NoMemory>
+fn is_contained(alloc: Global, claims: &Claims, content: Option<&Uri>) -> Result<bool, NoMemory>
     ensures { IfOk result (λ met. IsTrue met ↔ IsContained (option_copied content.entry) claims.now) }
 {
     let Some(content) = content else {

@@ -4,6 +4,9 @@ use std::alloc::Global;
 use std::test::Fail;
 use usp_uri::read_uri;
 
+mod judging;
+mod samples;
+
 // Whether a container text meets a URI.
 fn meets(alloc: Global, container: &str, uri: &str) -> Result<bool, NoMemory> {
     let container = Container::of(alloc, container.as_bytes())?;

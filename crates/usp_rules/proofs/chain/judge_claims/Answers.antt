@@ -2,7 +2,7 @@ use Rattle.std.proofs.Common.{length, refl}
 use Rattle.std.proofs.lemmas.Option.{slice_get_read}
 use Rattle.std.specs.Option.{option_copied}
 use Rattle.usp_jws.specs.Parts.{text_of}
-use Rattle.usp_rules.proofs.Firsts.{claims_denied, claims_passed, content_there}
+use Rattle.usp_rules.proofs.Firsts.{claims_denied, claims_passed}
 use Rattle.usp_rules.proofs.chain.judge_claims.Goals as goal
 
 pub returns-in-Some : goal.returns-in-Some

@@ -1,4 +1,4 @@
-use Rattle.std.proofs.Common.{IfOk, ◌≡◌, ◌∙◌, sym, ap, subst, Some}
+use Rattle.std.proofs.Common.{IfOk, ◌∙◌, sym, ap, subst}
 use Rattle.std.specs.Option.{option_copied}
 use Rattle.usp_package.specs.Found.{shown}
 use Rattle.usp_rules.specs.Judging.{JudgesWith}

@@ -1,4 +1,4 @@
-use Rattle.std.proofs.Common.{◌≡◌, ◌∙◌, sym, List, ℕ, Option}
+use Rattle.std.proofs.Common.{◌∙◌, sym, List, ℕ, Option}
 use Rattle.usp_json.specs.declared.value.Members.{Members}
 use Rattle.usp_jws.specs.Headers.{IsHeader}
 use Rattle.usp_rules.specs.Tokens.{HasClaims}

@@ -1,4 +1,3 @@
-use Rattle.std.proofs.Common.{rules}
 use Rattle.usp_rules.proofs.Wanted.{by_container}
 use Rattle.usp_rules.proofs.constraints.is_contained.Goals as goal
 

@@ -1,5 +1,4 @@
-use Rattle.std.proofs.Common.{◌≡◌, ◌∙◌, sym, ap, map, List, ℕ, ◌==◌}
-use Rattle.std.specs.List.{slice_split}
+use Rattle.std.proofs.Common.{◌≡◌, ◌∙◌, ap, map}
 use Rattle.usp_base.specs.Blanks.{trim_blanks}
 use Rattle.usp_rules.specs.Critical.{are_understood, names_in}
 use Rattle.usp_rules.proofs.Wanted.{mapped_twice}
@@ -8,6 +7,6 @@ use Rattle.usp_rules.proofs.critical.are_understood.Goals as goal
 pub returns : goal.returns
 returns g c =
     let same : map (λ part. trim_blanks part.now) c.deref.result.now ≡ names_in c.args.text.now =
-        mapped_twice trim_blanks (λ part. part.now) c.deref.result.now
-        ∙ ap (map trim_blanks) (ap (map (λ part. part.now)) c.deref.ensures.value ∙ c.in_ok-parts.ensures) in
+    mapped_twice trim_blanks (λ part. part.now) c.deref.result.now
+    ∙ ap (map trim_blanks) (ap (map (λ part. part.now)) c.deref.ensures.value ∙ c.in_ok-parts.ensures) in
     c.are_all_understood.ensures ∙ ap (are_understood c.args.extensions.now c.args.facts.now.path.now c.args.claims.now) same

@@ -1,4 +1,3 @@
-use Rattle.std.proofs.Common.{IfOk}
 use Rattle.usp_rules.proofs.Meeting.{regex_found}
 use Rattle.usp_rules.proofs.container.Container.meets.Goals as goal
 
