@@ -12,6 +12,7 @@ use std::process::ExitCode;
 use std::rt::Runtime;
 use std::{env, io};
 use usp_base::Status;
+use usp_ext::{Kit, equals, is_any, is_at_most, is_one_of, is_path_prefix};
 use usp_tool::{Outside, run};
 
 // The words behind the program's name.
@@ -41,6 +42,7 @@ fn main(rt: HostRuntime) -> ExitCode {
         files: Folder::new(&rt),
         input: Incoming::new(rt.reader()),
         out: Outgoing::new(io::writer(&rt)),
+        kit: Kit::new(is_any, equals, is_one_of, is_at_most, is_path_prefix),
     };
     let status = run(alloc, &words, &mut outside);
     ExitCode::from(status as u8)
