@@ -5,3 +5,4 @@ pub mod Texts
 pub mod Signing
 pub mod Working
 pub mod Known
+pub mod LawsLines

@@ -3,6 +3,7 @@
 
 mod answer;
 mod check;
+mod laws;
 mod line;
 mod lines;
 mod program;
@@ -13,5 +14,6 @@ mod verdict;
 mod words;
 mod work;
 
+pub use laws::lines_in_their_grammar_are_answered;
 pub use program::{Outside, run};
 pub use tool::run_tool;
