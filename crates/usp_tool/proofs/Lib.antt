@@ -6,3 +6,5 @@ pub mod Signing
 pub mod Working
 pub mod Known
 pub mod LawsLines
+pub mod LawsBytes
+pub mod LawsPassing
