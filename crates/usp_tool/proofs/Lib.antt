@@ -8,3 +8,4 @@ pub mod Known
 pub mod LawsLines
 pub mod LawsBytes
 pub mod LawsPassing
+pub mod LawsOnce

@@ -12,10 +12,12 @@ ghost use Rattle.usp_rules.specs.Asks.{content_in};
 ghost use Rattle.usp_rules.specs.Rules.{AllHold, Holds};
 ghost use Rattle.usp_rules.specs.declared.profile.Profile.{Profile};
 ghost use Rattle.usp_rules.specs.declared.rule.Rule.TheVariants as rule;
+ghost use Rattle.usp_tool.specs.Answer.{Answers};
 ghost use Rattle.usp_tool.specs.Check.{Checks};
 ghost use Rattle.usp_tool.specs.Line.{ask_of};
 ghost use Rattle.usp_tool.specs.Outcome.{Outcome};
 ghost use Rattle.usp_tool.specs.Sign.{Signs, SignsAll, key_named, payload_for};
+ghost use Rattle.usp_tool.specs.Words.{Command};
 
 /// Lines of which each is an ask are all judged, and lines for each of which something is signed are all signed: only a
 /// line of another form is refused.
@@ -39,4 +41,14 @@ pub fn signed_passes()
             (rule.Uri ∷ rule.Missing ∷ rule.Package ∷ rule.Header ∷ rule.Signature ∷ rule.Claims ∷ []) }
     ensures content { (attribute : List ℕ) (key : KeyValue) (line text : List ℕ) (s : Signs attribute key line text)
         → is_attr_name attribute ≡ true → is_kid key.kid ≡ true → content_in text (package_of attribute text) ≡ Some s.uri }
+{}
+
+/// Lines have one outcome, and leave one list of nonce calls behind them. So a command, a configuration and an input have one.
+pub fn one_outcome()
+    ensures checked { (profile : Profile) (room number : ℕ) (calls : List Call) (lines : List (List ℕ)) (o p : Outcome) (a b : List Call)
+        → Checks profile room number calls lines o a → Checks profile room number calls lines p b → (o ≡ p) × (a ≡ b) }
+    ensures signed { (attribute : List ℕ) (key : KeyValue) (number : ℕ) (lines : List (List ℕ)) (o p : Outcome)
+        → SignsAll attribute key number lines o → SignsAll attribute key number lines p → o ≡ p }
+    ensures answered { (command : Command) (conf input : List ℕ) (o p : Outcome)
+        → Answers command conf (Some input) o → Answers command conf (Some input) p → o ≡ p }
 {}

@@ -14,6 +14,6 @@ mod verdict;
 mod words;
 mod work;
 
-pub use laws::{lines_in_their_grammar_are_answered, signed_passes};
+pub use laws::{lines_in_their_grammar_are_answered, one_outcome, signed_passes};
 pub use program::{Outside, run};
 pub use tool::run_tool;
