@@ -1,5 +1,5 @@
 -- Lines in their grammar are answered.
-use Rattle.std.proofs.Common.{◌≡◌, ◌⊎◌, inl, inr, ℕ, suc, ◌+◌, true, List, [], ◌∷◌, length, get_or, Option, Some, None, refl, sym, ap, ◌∙◌, subst, arith}
+use Rattle.std.proofs.Common.{◌≡◌, ◌⊎◌, inl, inr, ℕ, suc, ◌+◌, true, List, ◌∷◌, Option, refl, sym, ap, ◌∙◌, subst, arith}
 use Rattle.std.specs.List.{All}
 use Rattle.std.specs.Option.{is_some}
 use Rattle.usp_base.specs.declared.fault.Status.{Status}
@@ -8,9 +8,9 @@ use Rattle.usp_jws.specs.Keys.{KeyValue}
 use Rattle.usp_nonce.specs.History.{Call}
 use Rattle.usp_rules.specs.Asks.{AskValue}
 use Rattle.usp_rules.specs.declared.profile.Profile.{Profile}
-use Rattle.usp_tool.specs.Check.{Checks, ChecksAsk, done, line, decides, refuses, status_with, with_verdict}
+use Rattle.usp_tool.specs.Check.{Checks, ChecksAsk, done, line, decides, refuses, status_with}
 use Rattle.usp_tool.specs.Line.{ask_of}
-use Rattle.usp_tool.specs.Outcome.{Outcome, nothing}
+use Rattle.usp_tool.specs.Outcome.{Outcome}
 use Rattle.usp_tool.specs.Sign.{Signs, SignsAll, done as signed_done, refuses as signed_refuses, signs}
 use Rattle.usp_tool.specs.declared.verdict.Verdict.{Verdict}
 use Rattle.usp_tool.specs.declared.verdict.Verdict.TheVariants.{Admitted, Denied}

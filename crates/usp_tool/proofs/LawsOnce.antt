@@ -1,12 +1,10 @@
 -- An input has one outcome.
-use Rattle.std.proofs.Common.{◌≡◌, ◌≢◌, ◌⊎◌, inl, inr, ℕ, ◌+◌, max, Bool, true, false, codes, List, [], ◌∷◌, ◌++◌, Option, Some, None, Result, Ok, Err, refl, sym, ap, ◌∙◌, subst}
-use Rattle.std.specs.Prelude.{IfSome, MatchBool}
-use Rattle.std.specs.Option.{unwrap_or}
-use Rattle.usp_base.specs.Cuts.{cut_at}
-use Rattle.usp_claims.specs.Table.{number_claim, text_claim}
+use Rattle.std.proofs.Common.{◌≡◌, ◌⊎◌, inl, inr, ℕ, ◌+◌, max, Bool, true, false, codes, List, [], ◌∷◌, ◌++◌, Option, Some, None, Result, Ok, Err, refl, sym, ap, ◌∙◌, subst}
+use Rattle.std.specs.Prelude.{MatchBool}
+use Rattle.usp_claims.specs.Table.{text_claim}
 use Rattle.usp_conf.proofs.Refused as conf
 use Rattle.usp_conf.specs.Conf.{conf_of}
-use Rattle.usp_conf.specs.Readings.{Configures, Fails, RefusesConf}
+use Rattle.usp_conf.specs.Readings.{Fails, RefusesConf}
 use Rattle.usp_conf.specs.Values.{ConfValue}
 use Rattle.usp_conf.specs.declared.fault.ConfFault.{ConfFault}
 use Rattle.usp_conf.specs.declared.fault.ConfFault.TheVariants as fault
@@ -19,9 +17,7 @@ use Rattle.usp_nonce.specs.Nonces.{Nonce}
 use Rattle.usp_nonce.specs.declared.answer.Answer.{Answer}
 use Rattle.usp_rules.proofs.Verdicts.{one_verdict}
 use Rattle.usp_rules.specs.Asks.{AskValue}
-use Rattle.usp_rules.specs.Judging.{Judges}
 use Rattle.usp_rules.specs.Tokens.{SpellsClaims}
-use Rattle.usp_rules.specs.declared.judged.Judged.{Judged}
 use Rattle.usp_rules.specs.declared.judged.Judged.TheVariants as judged
 use Rattle.usp_rules.specs.declared.profile.Profile.{Profile}
 use Rattle.usp_rules.specs.declared.rule.Rule.{Rule}
@@ -103,7 +99,7 @@ called_once : (room : ℕ) (ask : AskValue) (before : List Call) (c d j k : List
 called_once room ask before c d j k m n a b v w x y p some h next vi xi other g then wi yi =
     let names : j ≡ k = same_some (text_claim (codes "jti") n) j k (ap (text_claim (codes "jti")) (sym p.members_same) ∙ some) other in
     let here : IsCall ask n d k a =
-        subst (λ k. IsCall ask n d k a) names (subst (λ c. IsCall ask n c j a) p.content_same (subst (λ m. IsCall ask m c j a) p.members_same h)) in
+    subst (λ k. IsCall ask n d k a) names (subst (λ c. IsCall ask n c j a) p.content_same (subst (λ m. IsCall ask m c j a) p.members_same h)) in
     let same : a ≡ b = one_call room ask n d k before a b here next g then in
     record {
       verdict = vi ∙ (ap (λ t. verdict_by t a.answer) p.content_same ∙ (ap (λ (q : Call). verdict_by d q.answer) same ∙ sym wi));
@@ -299,7 +295,7 @@ one_worked : (command : Command) (value other : ConfValue) (input again : List �
     → WorksInput command value input o → WorksInput command other again p → o ≡ p
 one_worked command value other input again o p same e h k =
     let here : WorksInput command other again o =
-        subst (λ i. WorksInput command other i o) e (subst (λ v. WorksInput command v input o) same h) in
+    subst (λ i. WorksInput command other i o) e (subst (λ v. WorksInput command v input o) same h) in
     by_length (is_long_input again) command other (lines_of again) o p here k
 
 pub one_answer : (command : Command) (text input : List ℕ) (o p : Outcome) → Answers command text (Some input) o → Answers command text (Some input) p → o ≡ p

@@ -1,8 +1,8 @@
 -- What is signed passes the first six rules.
-use Rattle.std.proofs.Common.{◌≡◌, ℕ, zero, suc, ◌+◌, ◌<◌, ◌≤◌, Bool, true, false, cond, codes, List, [], ◌∷◌, ◌++◌, length, Option, Some, None, Ok, inl, inr, refl, sym, ap, ◌∙◌, subst, arith, append-nil}
+use Rattle.std.proofs.Common.{◌≡◌, ℕ, suc, ◌+◌, ◌≤◌, Bool, true, false, cond, codes, List, [], ◌∷◌, ◌++◌, length, Option, Some, None, Ok, inl, inr, refl, sym, ap, ◌∙◌, subst, arith, append-nil}
 use Rattle.std.specs.Prelude.{slice_get}
-use Rattle.std.specs.List.{find, list_all, zip}
-use Rattle.std.specs.Option.{is_some, option_and_then}
+use Rattle.std.specs.List.{list_all}
+use Rattle.std.specs.Option.{is_some}
 use Rattle.std.specs.Result.{result_ok}
 use Rattle.std.specs.Str.{IsAscii, IsUtf8, bytes_eq}
 use Rattle.std.proofs.lemmas.Slice.Zip.{length-zip}
@@ -16,11 +16,10 @@ use Rattle.usp_claims.proofs.Lengths.{entries_back}
 use Rattle.usp_claims.proofs.Named.{still_kept}
 use Rattle.usp_claims.proofs.Rows.{tells}
 use Rattle.usp_claims.specs.Changes.{with_claim, with_entry}
-use Rattle.usp_claims.specs.Table.{IsClaimSet, claim, name_of}
+use Rattle.usp_claims.specs.Table.{IsClaimSet, name_of}
 use Rattle.usp_claims.specs.declared.table.ClaimName.TheVariants.{Uc}
 use Rattle.usp_json.proofs.CanonLaws.{reads_back}
 use Rattle.usp_json.proofs.KeepLaws.{reading_keeps}
-use Rattle.usp_json.specs.Canon.{canon_members}
 use Rattle.usp_json.specs.Entries.{entries, value_of}
 use Rattle.usp_json.specs.Kept.{KeepMembers, KeepsLimits, members, string}
 use Rattle.usp_json.specs.Spells.{IsReading, given}
@@ -39,9 +38,9 @@ use Rattle.usp_jws.specs.Parts.{PartsValue, text_of}
 use Rattle.usp_jws.specs.Sealed.{sealed}
 use Rattle.usp_package.proofs.EmbedLaws.{embedded_again, embedded_normal, length-embedded}
 use Rattle.usp_package.specs.Name.{is_attr_name}
-use Rattle.usp_package.specs.Package.{Package, carried, is_run_byte, package_of}
+use Rattle.usp_package.specs.Package.{carried, is_run_byte, package_of}
 use Rattle.usp_rules.proofs.Firsts.{claims_here, header_here, verified_here}
-use Rattle.usp_rules.specs.Asks.{AskValue, content_in}
+use Rattle.usp_rules.specs.Asks.{content_in}
 use Rattle.usp_rules.specs.Rules.{AllHold, Holds, HoldsWith}
 use Rattle.usp_rules.specs.Segment.{segment_of}
 use Rattle.usp_rules.specs.Tokens.{Claims, HasClaims, HasHeader, IsVerified, SpellsClaims}
@@ -167,7 +166,7 @@ carries_parts : (ring : List KeyValue) (key : KeyValue) (payload : List ℕ) (m 
 carries_parts ring key payload m place parts apart there named spells is token =
     let header : IsHeader parts.header (Some key.kid) = sealed_header key payload parts named is in
     let has : HasClaims parts.payload m =
-        record { bytes = payload; are_bytes = reading_bytes payload m spells.reads; encoded = sealed_payload key payload parts is; claims = spells } in
+    record { bytes = payload; are_bytes = reading_bytes payload m spells.reads; encoded = sealed_payload key payload parts is; claims = spells } in
     record {
       compact = token;
       header = header_here parts (Some key.kid) token header;

@@ -38,7 +38,7 @@ pub fn signed_passes()
         → is_attr_name profile.attribute ≡ true → first_repeat profile.ring ≡ None → key_named profile.ring kid ≡ Some key → is_kid key.kid ≡ true
         → length (payload_for s.uri s.members) ≤ 4096
         → AllHold (λ r. Holds r profile (record { uri = text; cookie = cookie; moment = moment }))
-            (rule.Uri ∷ rule.Missing ∷ rule.Package ∷ rule.Header ∷ rule.Signature ∷ rule.Claims ∷ []) }
+        (rule.Uri ∷ rule.Missing ∷ rule.Package ∷ rule.Header ∷ rule.Signature ∷ rule.Claims ∷ []) }
     ensures content { (attribute : List ℕ) (key : KeyValue) (line text : List ℕ) (s : Signs attribute key line text)
         → is_attr_name attribute ≡ true → is_kid key.kid ≡ true → content_in text (package_of attribute text) ≡ Some s.uri }
 {}
