@@ -3,8 +3,9 @@ ghost use Rattle.std.specs.Prelude.{◌≡◌, ◌+◌, ◌≤◌, ◌||◌, tru
 ghost use Rattle.std.specs.List.{find};
 ghost use Rattle.std.specs.Option.{is_some, option_copied, option_map};
 ghost use Rattle.usp_json.specs.Canon.{canon, canon_members};
-ghost use Rattle.usp_json.specs.Kept.{KeepsLimits};
-ghost use Rattle.usp_json.specs.Spells.{IsReading};
+ghost use Rattle.usp_json.specs.Entries.{entries};
+ghost use Rattle.usp_json.specs.Kept.{Keeps, KeepsLimits};
+ghost use Rattle.usp_json.specs.Spells.{IsReading, given};
 ghost use Rattle.usp_claims.specs.Changes.{AreNamed, with_claim};
 ghost use Rattle.usp_claims.specs.Table.{IsClaimSet, claim, fits, is_audience, name_of, number_claim, period_claim, row, text_claim};
 ghost use Rattle.usp_claims.specs.declared.table.ClaimKind.TheVariants.{Number, Period, Text};
@@ -193,7 +194,7 @@ impl Claims {
 
     /// These claims with that value for one of them: a claim that is there keeps its place, and another goes last.
     /// Where there is no memory, the claims come back as they were, and the value is dropped.
-    #[tactic(auto, using(crate::proofs::Lengths::grows))]
+    #[tactic(auto, using(crate::proofs::Lengths::grows, crate::proofs::Named::still_kept))]
     pub fn with(
         self,
         alloc: Global,
@@ -204,6 +205,7 @@ impl Claims {
         requires short { length (canon_members (with_claim name value self)) ≤ 6000 }
         ensures changed { IfOk result (λ claims. claims ≡ with_claim name value self) }
         ensures growth { IfOk result (λ claims. length (canon_members claims) ≤ length (canon_members self) + length (name_of name) + 4 + length (canon value)) }
+        ensures keeps { IfOk result (λ claims. KeepsLimits self → Keeps given given.levels value → length (entries claims) ≤ 64 → KeepsLimits claims) }
         ensures unchanged { IfErr result (λ refused. refused.0 ≡ self) }
     {
         let Claims { members, text_len } = self;

@@ -24,8 +24,9 @@ pub fn refused_are_no_claim_sets()
 {}
 
 /// A claim that is given a value has it, and each other claim is as it was. A value that its row allows leaves a claim
-/// set, and so do a text and a number of 2^53 - 1 or less where the row asks for one. Members within the limits keep them where the value does and no more than 64 are left. The canonical text
-/// grows by at most the name, four bytes and the value's own.
+/// set, and so do a text and a number of 2^53 - 1 or less where the row asks for one. Members within the limits keep
+/// them where the value does and no more than 64 are left. The canonical text grows by at most the name, four bytes
+/// and the value's own.
 pub fn changes_one_claim()
     ensures this { (name : ClaimName) (value : Json) (m : Members) → claim (name_of name) (with_claim name value m) ≡ Some value }
     ensures others { (name : ClaimName) (other : List ℕ) (value : Json) (m : Members) → other ≢ name_of name → claim other (with_claim name value m) ≡ claim other m }

@@ -3,7 +3,8 @@ use Rattle.std.specs.Prelude.{ℕ, Bool, true, false, ◌&&◌, List}
 use Rattle.std.specs.List.{list_all, list_any}
 use Rattle.std.specs.Option.{option_map_or}
 use Rattle.usp_json.specs.declared.value.Json.{Json}
-use Rattle.usp_ext.specs.Values.{text_in, is_text, is_this, begins, is_number_up_to}
+use Rattle.usp_json.specs.Scalars.{text_in}
+use Rattle.usp_ext.specs.Values.{is_text, is_this, begins, is_number_up_to}
 use Rattle.usp_ext.specs.declared.kinds.TestKind.{TestKind}
 use Rattle.usp_ext.specs.declared.kinds.TestKind.TheVariants.{Any, Equals, OneOf, AtMost, PathPrefix}
 use Rattle.usp_ext.specs.declared.kinds.Setting.{Setting}

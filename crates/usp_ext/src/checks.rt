@@ -1,8 +1,7 @@
 // The five tests as plain functions, from which a caller makes its kit.
 ghost use Rattle.std.specs.Prelude.{◌≡◌};
 ghost use Rattle.std.specs.List.{list_all, list_any};
-ghost use Rattle.std.specs.Option.{option_copied};
-ghost use Rattle.usp_ext.specs.Values.{text_in, number_in, is_text, is_this, begins, is_number_up_to};
+ghost use Rattle.usp_ext.specs.Values.{whole_in, is_text, is_this, begins, is_number_up_to};
 ghost use Rattle.usp_ext.specs.Tests.{means, is_text_of};
 ghost use Rattle.usp_ext.specs.declared.kinds.TestKind.{TestKind};
 
@@ -12,36 +11,23 @@ use usp_json::{Items, Json};
 
 pub(crate) const LAST_NUMBER: u64 = 9_007_199_254_740_991;
 
-// The text that a value is.
-fn text_in(value: &Json) -> Option<&[u8]>
-    ensures { option_copied result ≡ text_in value.now }
-{
-    match value {
-        Json::Str(text) => Some(text.text().as_bytes()),
-        _ => None,
-    }
-}
-
 // The whole number, spelled with digits alone and at most 2^53 - 1, that a value is.
-fn number_in(value: &Json) -> Option<u64>
-    ensures { result ≡ number_in value.now }
+fn whole_in(value: &Json) -> Option<u64>
+    ensures { result ≡ whole_in value.now }
 {
-    match value {
-        Json::Num(number) => read_number(number.text(), LAST_NUMBER),
-        _ => None,
-    }
+    read_number(value.number()?, LAST_NUMBER)
 }
 
 fn is_text(value: &Json) -> bool
     ensures { result ≡ is_text value.now }
 {
-    text_in(value).is_some()
+    value.text().is_some()
 }
 
 fn is_this(value: &Json, text: &[u8]) -> bool
     ensures { result ≡ is_this text.now value.now }
 {
-    match text_in(value) {
+    match value.text() {
         None => false,
         Some(other) => other == text,
     }
@@ -51,7 +37,7 @@ fn is_this(value: &Json, text: &[u8]) -> bool
 fn begins(value: &Json, path: &[u8]) -> bool
     ensures { result ≡ begins path.now value.now }
 {
-    match text_in(value) {
+    match value.text() {
         None => false,
         Some(text) => path.starts_with(text),
     }
@@ -61,7 +47,7 @@ fn begins(value: &Json, path: &[u8]) -> bool
 fn is_number_up_to(value: &Json, most: u64) -> bool
     ensures { result ≡ is_number_up_to most value.now }
 {
-    match number_in(value) {
+    match whole_in(value) {
         None => false,
         Some(number) => number <= most,
     }
@@ -93,7 +79,7 @@ fn has_text(items: &Items, text: &[u8]) -> bool
 fn is_text_of(items: &Items, value: &Json) -> bool
     ensures { result ≡ is_text_of items.now.values value.now }
 {
-    match text_in(value) {
+    match value.text() {
         None => false,
         Some(text) => are_texts(items) && has_text(items, text),
     }

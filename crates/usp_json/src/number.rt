@@ -30,9 +30,10 @@ impl Model for NumText {
 
 impl NumText {
     /// The number in decimal, without a leading zero.
-    #[tactic(auto, using(crate::proofs::Numbers::decimal_is_number))]
+    #[tactic(auto, using(crate::proofs::Numbers::decimal_is_number, crate::proofs::Numbers::is_number_sound))]
     pub fn whole(alloc: Global, number: u64) -> Result<NumText, NoMemory>
-        ensures { IfOk result (λ n. n ≡ decimal number) }
+        ensures decimal { IfOk result (λ n. n ≡ decimal number) }
+        ensures number { IfOk result (λ n. IsNumber n) }
     {
         let digits = number.to_string(alloc)?;
         Ok(NumText {

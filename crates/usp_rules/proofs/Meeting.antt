@@ -8,7 +8,7 @@ use Rattle.usp_ere.specs.Faults.{fault_of}
 use Rattle.usp_ere.proofs.Reading.{one_tree}
 use Rattle.usp_ere.specs.declared.ere.Ere.{Ere}
 use Rattle.usp_ere.specs.Compiled.{expression_of}
-use Rattle.usp_rules.specs.Kinds.{ReadsAs, wants_memory}
+use Rattle.usp_rules.specs.Kinds.{MeetsAs, ReadsAs, wants_memory}
 use Rattle.usp_rules.specs.declared.container.Container.{Container}
 use Rattle.usp_rules.specs.declared.container.Container.TheVariants.{Regex}
 use Rattle.usp_rules.specs.declared.fault.NoMemory.{NoMemory as Unmet}
@@ -77,3 +77,8 @@ regex_found text uri container ere (Ok b) is reads found =
     let as_regex : ReadsAs text (Regex ere) = rw is at reads in
     let meets = regex_meets text as_regex.0 uri (expression_of ere) as_regex.1 as_regex.2 in
     (λ yes. meets.0 (found.0 yes), λ met. found.1 (meets.1 met))
+
+-- what an expression finds is what a container that is read as it meets
+pub regex_as : (uri : List ℕ) (container : Container) (ere : Ere) (r : Result Bool Unmet) → container ≡ Regex ere
+    → IfOk r (λ found. IsTrue found ↔ Finds (expression_of ere) uri) → IfOk r (λ met. IsTrue met ↔ MeetsAs container uri)
+regex_as uri container ere r is found = subst (λ c. IfOk r (λ met. IsTrue met ↔ MeetsAs c uri)) (sym is) found

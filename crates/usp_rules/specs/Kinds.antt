@@ -1,10 +1,11 @@
 -- What a container text is read as.
 use Rattle.std.specs.Prelude.{◌≡◌, ℕ, Bool, true, false, List, ◌++◌, codes, Option, Some, None}
-use Rattle.usp_ere.specs.Expression.{Expr}
+use Rattle.usp_ere.specs.Expression.{Expr, Finds}
 use Rattle.usp_ere.specs.declared.ere.Ere.{Ere}
 use Rattle.usp_ere.specs.declared.fault.EreFault.{EreFault}
 use Rattle.usp_ere.specs.declared.fault.EreFault.TheVariants.{Syntax, Undefined, Repeat, TooLarge, NoMemory}
 use Rattle.usp_ere.specs.Compiled.{Compiles, expression_of}
+use Rattle.usp_rules.specs.Segment.{segment_of}
 use Rattle.usp_rules.specs.declared.container.Container.{Container}
 use Rattle.usp_rules.specs.declared.container.Container.TheVariants.{Hash, Regex, Refused}
 
@@ -15,6 +16,12 @@ ReadsAs text (Regex ere) = (expression : List ℕ) × (text ≡ codes "regex:" +
 ReadsAs text Refused =
     ((segment : List ℕ) → text ≡ codes "hash:" ++ segment → ⊥)
     × ((expression : List ℕ) (e : Expr) → text ≡ codes "regex:" ++ expression → Compiles expression e → ⊥)
+
+-- The URI is met by what a container text is read as.
+abbrev pub MeetsAs : Container → List ℕ → Type 0
+MeetsAs (Hash segment) uri = segment ≡ segment_of uri
+MeetsAs (Regex ere) uri = Finds (expression_of ere) uri
+MeetsAs Refused uri = ⊥
 
 -- The text's expression, and none where it has a fault or is too large.
 abbrev pub IsCompiled : List ℕ → Option Ere → Type 0

@@ -2,7 +2,7 @@
 ghost use Rattle.std.specs.Prelude.{◌≡◌, ◌↔◌, ◌<◌, ℕ, List, IsTrue, IfOk};
 ghost use Rattle.usp_ere.specs.Compiled.{expression_of};
 ghost use Rattle.usp_ere.specs.Expression.{Finds};
-ghost use Rattle.usp_rules.specs.Kinds.{IsCompiled, ReadsAs, wants_memory};
+ghost use Rattle.usp_rules.specs.Kinds.{IsCompiled, MeetsAs, ReadsAs, wants_memory};
 ghost use Rattle.usp_rules.specs.Containers.{Meets};
 ghost use Rattle.usp_rules.specs.Segment.{segment_of};
 
@@ -97,7 +97,8 @@ impl Container {
 
     /// Whether the container meets the URI.
     pub fn meets(&self, alloc: Global, uri: &Uri) -> Result<bool, NoMemory>
-        ensures { (text : List ℕ) → ReadsAs text self.now → IfOk result (λ met. IsTrue met ↔ Meets text uri.now) }
+        ensures kind { IfOk result (λ met. IsTrue met ↔ MeetsAs self.now uri.now) }
+        ensures text { (text : List ℕ) → ReadsAs text self.now → IfOk result (λ met. IsTrue met ↔ Meets text uri.now) }
     {
         match self {
             Container::Hash(segment) => Ok(segment.bytes() == segment_of(uri.text()).as_slice()),

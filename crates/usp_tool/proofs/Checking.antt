@@ -102,14 +102,14 @@ kept_more conf input table after number text status rest first more ask verdict 
       legal = decided.legal;
       goes_on = goes_on_with verdict status k.goes_on;
       carries = λ o end checks.
-        let here : ChecksAsk conf.site.profile conf.room number k.calls (Some ask) (lines_of more) (with_verdict number verdict o) end =
-            decides number k.calls decided.after end ask (lines_of more) (with_verdict number verdict o) o verdict decided.decides checks refl in
-        let there : Checks conf.site.profile conf.room number k.calls (first ∷ lines_of more) (with_verdict number verdict o) end =
-            line number k.calls end first (lines_of more) (with_verdict number verdict o)
-            (subst (λ a. ChecksAsk conf.site.profile conf.room number k.calls a (lines_of more) (with_verdict number verdict o) end) (sym is) here) in
-        subst (λ p. Checks conf.site.profile conf.room 1 [] (lines_of input) p end) (behind_twice text status number verdict o k.goes_on)
-        (k.carries (with_verdict number verdict o) end
-        (subst (λ ls. Checks conf.site.profile conf.room number k.calls ls (with_verdict number verdict o) end) (sym cut) there));
+          let here : ChecksAsk conf.site.profile conf.room number k.calls (Some ask) (lines_of more) (with_verdict number verdict o) end =
+          decides number k.calls decided.after end ask (lines_of more) (with_verdict number verdict o) o verdict decided.decides checks refl in
+          let there : Checks conf.site.profile conf.room number k.calls (first ∷ lines_of more) (with_verdict number verdict o) end =
+          line number k.calls end first (lines_of more) (with_verdict number verdict o)
+          (subst (λ a. ChecksAsk conf.site.profile conf.room number k.calls a (lines_of more) (with_verdict number verdict o) end) (sym is) here) in
+          subst (λ p. Checks conf.site.profile conf.room 1 [] (lines_of input) p end) (behind_twice text status number verdict o k.goes_on)
+          (k.carries (with_verdict number verdict o) end
+          (subst (λ ls. Checks conf.site.profile conf.room number k.calls ls (with_verdict number verdict o) end) (sym cut) there));
     }
 
 refused_behind : (status : Status) → GoesOn status → behind_status status Refused ≡ Refused
@@ -134,11 +134,11 @@ pub kept_refused : (conf : ConfValue) (input : List ℕ) (table : Table) (number
     → whole ≡ text ++ (refused_line number).text → IsChecked conf (lines_of input) (record { text = whole; status = Refused })
 kept_refused conf input table number text status rest first more whole k cut none is =
     let here : Checks conf.site.profile conf.room number k.calls (first ∷ lines_of more) (refused_line number) k.calls =
-        line number k.calls k.calls first (lines_of more) (refused_line number)
-        (subst (λ a. ChecksAsk conf.site.profile conf.room number k.calls a (lines_of more) (refused_line number) k.calls) (sym none)
-        (refuses number k.calls k.calls (lines_of more) (refused_line number) refl refl)) in
+    line number k.calls k.calls first (lines_of more) (refused_line number)
+    (subst (λ a. ChecksAsk conf.site.profile conf.room number k.calls a (lines_of more) (refused_line number) k.calls) (sym none)
+    (refuses number k.calls k.calls (lines_of more) (refused_line number) refl refl)) in
     let there = k.carries (refused_line number) k.calls
-        (subst (λ ls. Checks conf.site.profile conf.room number k.calls ls (refused_line number) k.calls) (sym cut) here) in
+    (subst (λ ls. Checks conf.site.profile conf.room number k.calls ls (refused_line number) k.calls) (sym cut) here) in
     record {
       history = k.calls;
       legal = k.legal;
@@ -151,7 +151,7 @@ pub kept_done : (conf : ConfValue) (input : List ℕ) (table : Table) (number : 
     → Kept conf input table number text status rest → rest ≡ [] → IsChecked conf (lines_of input) (record { text = text; status = status })
 kept_done conf input table number text status rest k none =
     let here : Checks conf.site.profile conf.room number k.calls (lines_of rest) nothing k.calls =
-        subst (λ r. Checks conf.site.profile conf.room number k.calls (lines_of r) nothing k.calls) (sym none) (done number k.calls k.calls nothing refl refl) in
+    subst (λ r. Checks conf.site.profile conf.room number k.calls (lines_of r) nothing k.calls) (sym none) (done number k.calls k.calls nothing refl refl) in
     record {
       history = k.calls;
       legal = k.legal;
@@ -278,7 +278,7 @@ loop_done conf input table number text status rest k none = kept_done conf input
 -- what the work on a line does, under the configuration's own profile and by how it ended
 pub at_line : (conf : ConfValue) (profile : Profile) (number : ℕ) (first text whole : List ℕ) (result ends : Worked) (table after : Table) → profile ≡ conf.site.profile → result ≡ ends
     → ((before : List Call) → StandsFor table before → IsLegal table.room before
-        → ChecksLine profile table.room number before (ask_of first) text whole after result)
+    → ChecksLine profile table.room number before (ask_of first) text whole after result)
     → AtLine conf number first text ends whole table after
 at_line conf profile number first text whole result ends table after same is h = λ before stands legal.
     subst (λ r. ChecksLine conf.site.profile table.room number before (ask_of first) text whole after r) is

@@ -6,7 +6,6 @@ use Rattle.std.proofs.lemmas.Bool.{cases_lt, le-ltb}
 use Rattle.std.proofs.lemmas.List.{length-drop}
 use Rattle.std.proofs.lemmas.List.Splits.{length-slice_split, slice_split_first}
 use borrow.Author.Tests.{lt-ltb}
-
 use Rattle.usp_base.specs.Cuts.{cut_at, without_end}
 use Rattle.usp_rules.specs.Asks.{AskValue}
 use Rattle.usp_tool.specs.Line.{ask_at, ask_from, ask_of}
@@ -64,8 +63,8 @@ pub split_cut : (byte : ℕ) (text a b : List ℕ) → cut_at byte text ≡ Some
 split_cut byte text a b e =
     elim (cases_lt (position_or_len (at byte) text) (length text)) [
       | inl lt ↦
-        let same = same_cut _ _ a b (sym (found byte text lt) ∙ e) in
-        rw (← same.0, ← same.1) (slice_split_first (at byte) text 0 lt)
+          let same = same_cut _ _ a b (sym (found byte text lt) ∙ e) in
+          rw (← same.0, ← same.1) (slice_split_first (at byte) text 0 lt)
       | inr le ↦ absurd (is_none byte text a b le e)
     ]
 
@@ -73,8 +72,8 @@ pub cut_shorter : (byte : ℕ) (text a b : List ℕ) → cut_at byte text ≡ So
 cut_shorter byte text a b e =
     elim (cases_lt (position_or_len (at byte) text) (length text)) [
       | inl lt ↦
-        let same = same_cut _ _ a b (sym (found byte text lt) ∙ e) in
-        omega (arith, ap length same.1, length-drop (position_or_len (at byte) text + 1) text)
+          let same = same_cut _ _ a b (sym (found byte text lt) ∙ e) in
+          omega (arith, ap length same.1, length-drop (position_or_len (at byte) text + 1) text)
       | inr le ↦ absurd (is_none byte text a b le e)
     ]
 

@@ -23,7 +23,7 @@ both_long : (command : Command) (conf : ConfValue) (a b : List ℕ) (o : Outcome
     → WorksInput command conf a o → WorksInput command conf b o
 both_long command conf a b o p q h =
     let refuses : o ≡ refused (codes "input") =
-        subst (λ t. MatchBool t (o ≡ refused (codes "input")) (Works command conf (lines_of a) o)) (long_is a p) h in
+    subst (λ t. MatchBool t (o ≡ refused (codes "input")) (Works command conf (lines_of a) o)) (long_is a p) h in
     subst (λ t. MatchBool t (o ≡ refused (codes "input")) (Works command conf (lines_of b) o)) (sym (long_is b q)) refuses
 
 -- the whole input, where it is told, and else what was read
@@ -59,7 +59,7 @@ pub shows_put : (command : Command) (conf : List ℕ) (around : Around) (before 
 shows_put command conf around before faults text status result o answers own t s (inl wrote) =
     let ends : result ≡ o.status = wrote.0 ∙ s in
     let w : Worked command conf around o.status =
-        record { outcome = o; answers = answers; written = wrote.1 ∙ ap (append_known around.told) t; ends = refl } in
+    record { outcome = o; answers = answers; written = wrote.1 ∙ ap (append_known around.told) t; ends = refl } in
     subst (λ r. ShowsWork r command conf around) (sym ends) (shows_own command conf around o.status own w)
 shows_put command conf around before faults text status result o answers own t s (inr failed) =
     subst (λ r. ShowsWork r command conf around) (sym failed.0) tt

@@ -107,14 +107,14 @@ too_long attribute line typed claims uri key members cut some spells long text s
     let c : SpellsClaims claims s.members = subst (λ c. SpellsClaims c s.members) (of_these attribute line typed claims key text s cut).1 s.spells in
     let m : s.members ≡ members = reads_once given claims s.members members c.reads spells.reads in
     let same : text ≡ signed_uri attribute key uri members =
-        s.signed ∙ (ap (λ u. signed_uri attribute key u s.members) u ∙ ap (λ m. signed_uri attribute key uri m) m) in
+    s.signed ∙ (ap (λ u. signed_uri attribute key u s.members) u ∙ ap (λ m. signed_uri attribute key uri m) m) in
     omega (arith, long, s.short, ap length same)
 
 -- the line is signed as its URI and its claims are
 pub signed_line : {X : Type 0} (items : X → List ℕ) (attribute line typed claims uri : List ℕ) (key : KeyValue) (members : Members) (r : Result (Option X) NoMemory) → cut_at 32 line ≡ Some (typed, claims)
     → result_ok (normal_of typed) ≡ Some uri → package_of attribute uri ≡ no_package → SpellsClaims claims members
     → IfOk r (λ signed. MatchOption signed (8192 < length (signed_uri attribute key uri members))
-        (λ text. (items text ≡ signed_uri attribute key uri members) × (length (items text) ≤ 8192)))
+    (λ text. (items text ≡ signed_uri attribute key uri members) × (length (items text) ≤ 8192)))
     → IfOk r (λ signed. MatchOption signed ((text : List ℕ) → Signs attribute key line text → ⊥) (λ text. Signs attribute key line (items text)))
 signed_line items attribute line typed claims uri key members (Err e) cut some bare spells h = h
 signed_line items attribute line typed claims uri key members (Ok None) cut some bare spells h = too_long attribute line typed claims uri key members cut some spells h
@@ -140,13 +140,13 @@ pub signed_more : (attribute : List ℕ) (key : KeyValue) (input : List ℕ) (nu
 signed_more attribute key input number text rest first more signed whole k cut shorter s is =
     record {
       carries = λ o all.
-        let here : SignsAll attribute key number (first ∷ lines_of more) (made (signed ++ (10 ∷ o.text)) o.status) =
-            signs number first signed (lines_of more) (made (signed ++ (10 ∷ o.text)) o.status) o s all refl in
-        let there = k.carries (made (signed ++ (10 ∷ o.text)) o.status)
-            (subst (λ ls. SignsAll attribute key number ls (made (signed ++ (10 ∷ o.text)) o.status)) (sym cut) here) in
-        let same : text ++ (signed ++ (10 ∷ o.text)) ≡ whole ++ o.text =
-            sym (append_assoc text signed (10 ∷ o.text)) ∙ (sym (append_assoc (text ++ signed) (10 ∷ []) o.text) ∙ ap (λ t. t ++ o.text) (sym is)) in
-        subst (λ p. SignsAll attribute key 1 (lines_of input) p) (same_made _ _ _ _ same refl) there;
+          let here : SignsAll attribute key number (first ∷ lines_of more) (made (signed ++ (10 ∷ o.text)) o.status) =
+          signs number first signed (lines_of more) (made (signed ++ (10 ∷ o.text)) o.status) o s all refl in
+          let there = k.carries (made (signed ++ (10 ∷ o.text)) o.status)
+          (subst (λ ls. SignsAll attribute key number ls (made (signed ++ (10 ∷ o.text)) o.status)) (sym cut) here) in
+          let same : text ++ (signed ++ (10 ∷ o.text)) ≡ whole ++ o.text =
+          sym (append_assoc text signed (10 ∷ o.text)) ∙ (sym (append_assoc (text ++ signed) (10 ∷ []) o.text) ∙ ap (λ t. t ++ o.text) (sym is)) in
+          subst (λ p. SignsAll attribute key 1 (lines_of input) p) (same_made _ _ _ _ same refl) there;
       count = omega (arith, k.count, shorter);
     }
 
@@ -162,5 +162,5 @@ pub signed_done : (attribute : List ℕ) (key : KeyValue) (input : List ℕ) (nu
     → SignsAll attribute key 1 (lines_of input) (made text Done)
 signed_done attribute key input number text rest k none =
     let here : SignsAll attribute key number (lines_of rest) nothing =
-        subst (λ r. SignsAll attribute key number (lines_of r) nothing) (sym none) (done number nothing refl) in
+    subst (λ r. SignsAll attribute key number (lines_of r) nothing) (sym none) (done number nothing refl) in
     subst (λ p. SignsAll attribute key 1 (lines_of input) p) (same_made _ _ _ _ (append-nil text) refl) (k.carries nothing here)

@@ -12,9 +12,10 @@ use Rattle.usp_tool.specs.Words.{Command}
 
 pub no_conf_is : (command : Command) (text : List ℕ) (found : ConfFault) (outcome : Outcome) → RefusesConf found text → wants_memory found ≡ false
     → outcome ≡ refused (codes "conf " ++ fault_name found) → (outcome.status ≡ status.Refused) × ((left : Option (List ℕ)) → Answers command text left outcome)
-no_conf_is command text found outcome refuses other is =
-    (ap (λ o. o.status) is,
-     λ left. no_conf found refuses (λ e. let both : true ≡ false = sym (ap wants_memory e) ∙ other in cc) is)
+no_conf_is command text found outcome refuses other is = (
+  ap (λ o. o.status) is,
+  λ left. no_conf found refuses (λ e. let both : true ≡ false = sym (ap wants_memory e) ∙ other in cc) is,
+)
 
 pub no_key_is : (command : Command) (text : List ℕ) (conf : ConfValue) (outcome : Outcome) → Configures text conf → LacksKey command conf
     → outcome ≡ refused (codes "key") → (outcome.status ≡ status.Refused) × ((left : Option (List ℕ)) → Answers command text left outcome)

@@ -8,6 +8,10 @@ mod lines;
 mod program;
 mod reading;
 mod sign;
+#[cfg(test)]
+mod sign_tests;
+#[cfg(test)]
+mod tests;
 mod tool;
 mod verdict;
 mod words;

@@ -90,9 +90,13 @@ pub fn decide(
 {
     match judge(alloc, kit, profile, ask) {
         Ok(Judged::Denied(rule)) => Ok(Verdict::Denied(rule)),
-        Ok(Judged::Passed {
-            content, claims, ..
-        }) => decide_passed(alloc, table, ask, content, &claims),
+        Ok(
+            Judged::Passed {
+                content,
+                claims,
+                ..
+            },
+        ) => decide_passed(alloc, table, ask, content, &claims),
         Err(_) => Err(NoMemory),
     }
 }

@@ -19,9 +19,9 @@ pub returns-clause-worked : goal.returns-clause-worked
 returns-clause-worked g c = λ files.
     let ready = subst (Prepares (shown c.args.command.now) c.args.text.now) c.in-Ok-Ready.field-0-is c.in-Ok-Ready.ensures in
     let answers : Answers (shown c.args.command.now) c.args.text.now (g.S.Source.left c.args.input.now) c.in-Ok-work.answer =
-        answers_read (shown c.args.command.now) c.args.text.now c.in-Ok-Ready.conf c.deref.result.now (g.S.Source.left c.args.input.now)
-        (g.S.Source.left c.read_up_to.new.source) c.in-Ok-work.answer ready.0 ready.1 (rw c.deref.ensures.value c.in-Ok.ensures.taken)
-        (λ short. (c.in-Ok.ensures.over (rw (← c.deref.ensures.value) short)).1) c.in-Ok-work.ensures.works in
+    answers_read (shown c.args.command.now) c.args.text.now c.in-Ok-Ready.conf c.deref.result.now (g.S.Source.left c.args.input.now)
+    (g.S.Source.left c.read_up_to.new.source) c.in-Ok-work.answer ready.0 ready.1 (rw c.deref.ensures.value c.in-Ok.ensures.taken)
+    (λ short. (c.in-Ok.ensures.over (rw (← c.deref.ensures.value) short)).1) c.in-Ok-work.ensures.works in
     shows_put (shown c.args.command.now) c.args.text.now
     (record { files = files; left = g.S.Source.left c.args.input.now; told = g.K.Sink.told c.args.out.now; told_after = g.K.Sink.told c.put_text-2.new.out })
     _ _ c.text-2.result.now c.status-2.result c.put_text-2.result c.in-Ok-work.answer answers c.in-Ok-work.ensures.own c.text-2.ensures c.status-2.ensures c.put_text-2.ensures
@@ -29,7 +29,7 @@ returns-clause-worked g c = λ files.
 pub returns-clause-whole : goal.returns-clause-whole
 returns-clause-whole g c =
     let whole = read_whole (shown c.args.command.now) c.in-Ok-Ready.conf c.deref.result.now c.in-Ok-work.answer (g.S.Source.ended c.read_up_to.new.source)
-        (λ short. (c.in-Ok.ensures.over (rw (← c.deref.ensures.value) short)).0) c.in-Ok-work.ensures.works in
+    (λ short. (c.in-Ok.ensures.over (rw (← c.deref.ensures.value) short)).0) c.in-Ok-work.ensures.works in
     reads_put _ _ _ _ c.text-2.result.now c.status-2.result c.put_text-2.result (g.S.Source.ended c.read_up_to.new.source)
     (subst IsOwn (sym c.status-2.ensures) c.in-Ok-work.ensures.own)
     (subst (λ s. (s ≡ Refused) ⊎ (g.S.Source.ended c.read_up_to.new.source ≡ true)) (sym c.status-2.ensures) whole) c.put_text-2.ensures
