@@ -13,7 +13,6 @@ use Rattle.usp_package.specs.Name.{is_attr_name}
 use Rattle.usp_issue.specs.Sites.{is_own}
 use Rattle.usp_ext.specs.declared.kinds.TestKind.{TestKind}
 use Rattle.usp_ext.specs.declared.kinds.TestKind.TheVariants as kind
-use Rattle.usp_ext.specs.declared.kinds.Extension.{Extension}
 use Rattle.usp_conf.specs.Answers.{and_then}
 use Rattle.usp_conf.specs.Claims as claims
 use Rattle.usp_conf.specs.Conf.{names_of, trust_of, service_of, conf_of}

@@ -1,6 +1,5 @@
 -- A text is a configuration or refused, and not both.
-use Rattle.std.proofs.Common.{◌≡◌, ◌≢◌, ◌∙◌, ℕ, List, Option, Some, None, Result, Ok, Err, refl, sym, rules, arith}
-use Rattle.serde_json.specs.Data.{Data}
+use Rattle.std.proofs.Common.{◌≡◌, ◌≢◌, ℕ, List, Option, Some, None, Result, Ok, Err, refl, arith}
 use Rattle.serde_json.specs.Read.{read}
 use Rattle.usp_conf.specs.Conf.{conf_of}
 use Rattle.usp_conf.specs.Readings.{Configures, Fails, RefusesConf}

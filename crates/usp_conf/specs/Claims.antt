@@ -1,11 +1,11 @@
 -- Extensions: claims with their tests.
-use Rattle.std.specs.Prelude.{ℕ, Bool, true, false, not, ◌||◌, nat_le, List, [], ◌∷◌, ◌++◌, codes, Option, Some, None, Result, Ok, Err, if◌then◌else◌}
+use Rattle.std.specs.Prelude.{ℕ, Bool, false, not, ◌||◌, List, [], ◌∷◌, ◌++◌, codes, Option, Some, None, Result, Ok, Err, if◌then◌else◌}
 use Rattle.std.specs.List.{list_any}
 use Rattle.std.specs.Option.{option_map_or}
 use Rattle.std.specs.Str.{bytes_eq}
-use Rattle.serde_json.specs.Data.{Data, Num, unsigned, negative, float}
+use Rattle.serde_json.specs.Data.{Data}
 use Rattle.serde_json.specs.Data.{Items as Elements}
-use Rattle.serde_json.specs.Find.{as_str, as_null, as_number, as_array}
+use Rattle.serde_json.specs.Find.{as_null, as_array}
 use Rattle.usp_json.specs.declared.value.Json.{Json}
 use Rattle.usp_json.specs.declared.value.Json.TheVariants.{Str}
 use Rattle.usp_json.specs.declared.value.Json.TheViews.{roll-Items}

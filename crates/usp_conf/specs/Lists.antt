@@ -1,5 +1,5 @@
 -- Members that are lists.
-use Rattle.std.specs.Prelude.{ℕ, Bool, zero, suc, ◌&&◌, nat_le, List, [], ◌∷◌, Option, Result, Ok, Err, if◌then◌else◌}
+use Rattle.std.specs.Prelude.{ℕ, Bool, suc, ◌&&◌, nat_le, List, [], ◌∷◌, Result, Ok, Err, if◌then◌else◌}
 use Rattle.std.specs.Option.{option_map_or}
 use Rattle.serde_json.specs.Data.{Data, Items, no_items, item}
 use Rattle.serde_json.specs.Find.{as_array, as_object}
@@ -8,7 +8,6 @@ use Rattle.usp_conf.specs.Texts.{optional, identity_of}
 use Rattle.usp_conf.specs.declared.fault.ConfFault.{ConfFault}
 use Rattle.usp_conf.specs.declared.fault.ConfFault.TheVariants as fault
 use Rattle.usp_conf.specs.declared.member.Member.{Member}
-use Rattle.usp_conf.specs.declared.member.Member.TheVariants as member
 
 -- the elements, one whole element after the other
 abbrev pub each : {A : Type 0} → (Data → Result A ConfFault) → Items → Result (List A) ConfFault

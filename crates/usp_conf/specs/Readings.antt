@@ -1,5 +1,5 @@
 -- The reading of a text by `serde_json`, and what a fault says of the text.
-use Rattle.std.specs.Prelude.{◌≡◌, ℕ, List, IsUtf8, Option, Some, None, Ok, Err}
+use Rattle.std.specs.Prelude.{◌≡◌, ℕ, List, IsUtf8, Some, None, Ok, Err}
 use Rattle.serde_json.specs.Data.{Data}
 use Rattle.serde_json.specs.Read.{read}
 use Rattle.usp_conf.specs.Conf.{conf_of}

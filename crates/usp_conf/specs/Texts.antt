@@ -1,7 +1,7 @@
 -- Members that are texts and numbers.
-use Rattle.std.specs.Prelude.{ℕ, Bool, true, ◌&&◌, nat_le, List, codes, Option, Some, None, Result, Ok, Err, if◌then◌else◌}
+use Rattle.std.specs.Prelude.{ℕ, Bool, true, ◌&&◌, nat_le, List, codes, Result, Ok, Err, if◌then◌else◌}
 use Rattle.std.specs.Option.{option_map_or}
-use Rattle.serde_json.specs.Data.{Data, Num, unsigned, negative, float}
+use Rattle.serde_json.specs.Data.{Data, Num, unsigned}
 use Rattle.serde_json.specs.Find.{get, as_str, as_number, as_bool}
 use Rattle.usp_jws.specs.Letters.{is_identity}
 use Rattle.usp_package.specs.Name.{is_attr_name}

@@ -1,5 +1,5 @@
 -- What a claim's value is (RFC 8259 section 3).
-use Rattle.std.specs.Prelude.{ℕ, Bool, false, nat_le, List, length, take, Option, Some, None}
+use Rattle.std.specs.Prelude.{ℕ, Bool, false, nat_le, List, length, take, Option}
 use Rattle.std.specs.Option.{is_some, option_and_then, option_map_or}
 use Rattle.std.specs.Str.{bytes_eq}
 use Rattle.usp_base.specs.Numbers.{number_of}

@@ -1,17 +1,17 @@
 -- The lines of `check`, one after the other.
-use Rattle.std.proofs.Common.{IfOk, ◌≡◌, ℕ, ◌+◌, ◌<◌, ◌≤◌, ◌==◌, Bool, true, false, List, [], ◌∷◌, ◌++◌, length, Option, Some, None, refl, sym, ap, ◌∙◌, subst, arith, append_assoc, append-nil}
+use Rattle.std.proofs.Common.{◌≡◌, ℕ, ◌+◌, ◌<◌, ◌≤◌, ◌==◌, true, List, [], ◌∷◌, ◌++◌, length, Option, Some, None, refl, sym, ◌∙◌, subst, arith, append_assoc, append-nil}
 use Rattle.std.proofs.lemmas.Bool.Decides.{nat_tests}
 use Rattle.std.proofs.lemmas.List.{nil_from_length}
 use Rattle.usp_base.specs.declared.fault.Status.{Status}
 use Rattle.usp_base.specs.declared.fault.Status.TheVariants.{Done, Denials, Words, Refused, Outside, Memory}
 use Rattle.usp_conf.specs.Values.{ConfValue}
-use Rattle.usp_nonce.specs.History.{Call, IsLegal, IsNext}
+use Rattle.usp_nonce.specs.History.{Call, IsLegal}
 use Rattle.usp_nonce.specs.Stands.{StandsFor}
 use Rattle.usp_nonce.specs.Table.{Table}
 use Rattle.usp_rules.specs.Asks.{AskValue}
 use Rattle.usp_rules.specs.declared.profile.Profile.{Profile}
 use Rattle.usp_tool.specs.Answer.{IsChecked}
-use Rattle.usp_tool.specs.Check.{Checks, ChecksAsk, Decides, IsDecided, decides, done, line, refuses, status_with, verdict_line, with_verdict}
+use Rattle.usp_tool.specs.Check.{Checks, ChecksAsk, IsDecided, decides, done, line, refuses, status_with, verdict_line, with_verdict}
 use Rattle.usp_tool.specs.Line.{ask_of}
 use Rattle.usp_tool.specs.Lines.{lines_of}
 use Rattle.usp_tool.specs.Outcome.{IsOwn, Outcome, nothing, refused_line}

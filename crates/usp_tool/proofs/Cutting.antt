@@ -1,14 +1,13 @@
 -- Lines and fields, as they are cut.
-use Rattle.std.proofs.Common.{inl, inr, ◌≡◌, ℕ, suc, ◌+◌, ◌<◌, ◌≤◌, Bool, true, false, not, ◌||◌, cond, nat_lt, ◌==◌, List, [], ◌∷◌, length, take, drop, Option, Some, None, refl, sym, ap, ◌∙◌, arith}
-use Rattle.std.specs.List.{position, position_or_len, slice_split, onto_first}
+use Rattle.std.proofs.Common.{inl, inr, ◌≡◌, ℕ, suc, ◌+◌, ◌<◌, ◌≤◌, Bool, true, false, not, cond, ◌==◌, List, [], ◌∷◌, length, take, drop, Option, Some, None, refl, sym, ap, ◌∙◌, arith}
+use Rattle.std.specs.List.{position_or_len, slice_split, onto_first}
 use Rattle.std.specs.Option.{option_map}
 use Rattle.std.proofs.lemmas.Bool.{cases_lt, le-ltb}
 use Rattle.std.proofs.lemmas.List.{length-drop}
 use Rattle.std.proofs.lemmas.List.Splits.{length-slice_split, slice_split_first}
 use borrow.Author.Tests.{lt-ltb}
 use Rattle.usp_base.specs.Cuts.{cut_at, without_end}
-use Rattle.usp_rules.specs.Asks.{AskValue}
-use Rattle.usp_tool.specs.Line.{ask_at, ask_from, ask_of}
+use Rattle.usp_tool.specs.Line.{ask_from, ask_of}
 use Rattle.usp_tool.specs.Lines.{lines_in, lines_of}
 
 -- the byte at which a text is cut

@@ -1,5 +1,5 @@
 -- The verdict on an ask, with its nonce call.
-use Rattle.std.proofs.Common.{IfOk, ◌≡◌, ℕ, ◌+◌, ◌≤◌, Bool, true, false, ◌&&◌, cond, nat_le, codes, List, [], ◌∷◌, ◌++◌, Option, Some, None, Result, Ok, Err, refl, sym, ap, ◌∙◌, subst, arith}
+use Rattle.std.proofs.Common.{◌≡◌, ℕ, ◌≤◌, Bool, true, false, ◌&&◌, cond, nat_le, codes, List, [], ◌∷◌, ◌++◌, Option, Some, None, refl, arith}
 use Rattle.std.specs.Option.{option_and_then, unwrap_or}
 use Rattle.std.proofs.lemmas.Bool.Decides.{nat_tests}
 use Rattle.usp_base.specs.Numbers.{is_whole, number_of, value_of}
@@ -14,12 +14,10 @@ use Rattle.usp_nonce.specs.Table.{Table}
 use Rattle.usp_nonce.specs.declared.answer.Turned.{Turned}
 use Rattle.usp_rules.specs.Asks.{AskValue}
 use Rattle.usp_rules.specs.Judging.{Judges}
-use Rattle.usp_rules.specs.declared.judged.Judged.{Judged}
 use Rattle.usp_rules.specs.declared.judged.Judged.TheVariants as judged
 use Rattle.usp_rules.specs.declared.profile.Profile.{Profile}
 use Rattle.usp_rules.specs.declared.rule.Rule.{Rule}
-use Rattle.usp_tool.specs.Check.{Decides, IsCall, IsDecided, called, denied, free, verdict_by}
-use Rattle.usp_tool.specs.declared.verdict.Verdict.{Verdict}
+use Rattle.usp_tool.specs.Check.{IsDecided, called, denied, free, verdict_by}
 use Rattle.usp_tool.specs.declared.verdict.Verdict.TheVariants.{Admitted, Denied}
 
 bound_by : (w b : Bool) (v most n : ℕ) → nat_le v most ≡ b → cond (w && b) (Some v) None ≡ Some n → n ≤ most

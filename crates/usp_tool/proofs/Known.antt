@@ -12,7 +12,7 @@ use Rattle.usp_conf.specs.Values.{ConfValue}
 use Rattle.usp_tool.specs.Answer.{Answers, LacksKey, Works, WorksInput, worked}
 use Rattle.usp_tool.specs.Lines.{is_long_input, is_long_line, lines_of}
 use Rattle.usp_tool.specs.Outcome.{IsOwn, Outcome, refused}
-use Rattle.usp_tool.specs.Run.{Around, Answered, ReadsWhole, Shows, ShowsWork, Worked, Wrote}
+use Rattle.usp_tool.specs.Run.{Around, ReadsWhole, Shows, ShowsWork, Worked, Wrote}
 use Rattle.usp_tool.specs.Words.{Command, conf_name}
 
 long_is : (input : List ℕ) → 16777216 < length input → is_long_input input ≡ true

@@ -5,3 +5,7 @@ pub mod Texts
 pub mod Signing
 pub mod Working
 pub mod Known
+pub mod LawsLines
+pub mod LawsBytes
+pub mod LawsPassing
+pub mod LawsOnce

@@ -1,5 +1,5 @@
 -- The lines of `sign`, one after the other.
-use Rattle.std.proofs.Common.{IfOk, MatchOption, ◌≡◌, ℕ, ◌+◌, ◌<◌, ◌≤◌, Bool, true, false, codes, List, [], ◌∷◌, ◌++◌, length, Option, Some, None, Result, Ok, Err, refl, sym, ap, ◌∙◌, subst, arith, append_assoc, append-nil, length-append, slice_get}
+use Rattle.std.proofs.Common.{IfOk, MatchOption, ◌≡◌, ℕ, ◌+◌, ◌<◌, ◌≤◌, codes, List, [], ◌∷◌, ◌++◌, length, Option, Some, None, Result, Ok, Err, refl, sym, ap, ◌∙◌, subst, arith, append_assoc, append-nil, length-append}
 use Rattle.std.specs.Result.{result_ok}
 use Rattle.sha2.specs.Sha256.{sha256}
 use Rattle.sha2.proofs.Facts256.{length-sha256}
@@ -12,7 +12,7 @@ use Rattle.usp_claims.proofs.Shorter.{no_longer}
 use Rattle.usp_claims.specs.Changes.{with_claim}
 use Rattle.usp_claims.specs.Table.{IsClaimSet}
 use Rattle.usp_claims.specs.declared.table.ClaimName.TheVariants.{Uc}
-use Rattle.usp_json.specs.Canon.{canon, canon_members}
+use Rattle.usp_json.specs.Canon.{canon_members}
 use Rattle.usp_json.specs.declared.value.Json.TheVariants.{Str}
 use Rattle.usp_json.specs.declared.value.Members.{Members}
 use Rattle.usp_jws.proofs.Tokens.{length-b64u}

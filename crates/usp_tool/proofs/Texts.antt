@@ -1,5 +1,5 @@
 -- Lines of the output, piece by piece.
-use Rattle.std.proofs.Common.{◌≡◌, ℕ, codes, List, [], ◌∷◌, ◌++◌, ◌∙◌, ap, append_assoc}
+use Rattle.std.proofs.Common.{◌≡◌, ℕ, codes, List, [], ◌∷◌, ◌++◌, ◌∙◌, append_assoc}
 
 pub refused_line_text : (text digits : List ℕ)
     → ((text ++ codes "refused line ") ++ digits) ++ 10 ∷ [] ≡ text ++ (codes "refused " ++ ((codes "line " ++ digits) ++ 10 ∷ []))

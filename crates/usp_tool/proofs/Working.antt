@@ -1,10 +1,9 @@
 -- What is refused before the input is read.
-use Rattle.std.proofs.Common.{◌≡◌, ℕ, true, false, codes, List, ◌++◌, Option, refl, sym, ap, ◌∙◌, subst}
+use Rattle.std.proofs.Common.{◌≡◌, ℕ, true, false, codes, List, ◌++◌, Option, sym, ap, ◌∙◌}
 use Rattle.usp_base.specs.declared.fault.Status.TheVariants as status
 use Rattle.usp_conf.specs.Readings.{Configures, RefusesConf}
 use Rattle.usp_conf.specs.Values.{ConfValue}
 use Rattle.usp_conf.specs.declared.fault.ConfFault.{ConfFault}
-use Rattle.usp_conf.specs.declared.fault.ConfFault.TheVariants as fault
 use Rattle.usp_tool.specs.Answer.{Answers, LacksKey, no_conf, no_key}
 use Rattle.usp_tool.specs.Outcome.{Outcome, fault_name, refused}
 use Rattle.usp_tool.specs.Work.{wants_memory}

@@ -9,7 +9,6 @@ use Rattle.usp_json.specs.declared.value.Members.{Members}
 use Rattle.usp_nonce.specs.History.{Call, IsLegal, IsNext}
 use Rattle.usp_nonce.specs.Stands.{StandsFor}
 use Rattle.usp_nonce.specs.Table.{Table}
-use Rattle.usp_nonce.specs.Nonces.{Nonce}
 use Rattle.usp_nonce.specs.declared.answer.Answer.{Answer}
 use Rattle.usp_nonce.specs.declared.answer.Answer.TheVariants.{Late, Seen, Full, Taken}
 use Rattle.usp_rules.specs.Asks.{AskValue}

@@ -3,6 +3,7 @@
 
 mod answer;
 mod check;
+mod laws;
 mod line;
 mod lines;
 mod program;
@@ -17,5 +18,6 @@ mod verdict;
 mod words;
 mod work;
 
+pub use laws::{lines_in_their_grammar_are_answered, one_outcome, signed_passes};
 pub use program::{Outside, run};
 pub use tool::run_tool;

@@ -1,4 +1,4 @@
-use Rattle.std.proofs.Common.{◌∙◌, ap, ◌∷◌, [], ◌++◌, codes}
+use Rattle.std.proofs.Common.{◌∙◌, ap, ◌∷◌, [], ◌++◌}
 use Rattle.std.specs.Fmt.{decimal}
 use Rattle.usp_tool.proofs.Texts.{refused_line_text}
 use Rattle.usp_tool.proofs.answer.push_refused_line.Goals as goal

@@ -1,4 +1,4 @@
-use Rattle.std.proofs.Common.{◌≡◌, ◌∙◌, sym, ap, subst}
+use Rattle.std.proofs.Common.{◌∙◌, sym, ap, subst}
 use Rattle.usp_tool.specs.Answer.{IsChecked}
 use Rattle.usp_tool.specs.Lines.{lines_of}
 use Rattle.usp_tool.specs.Outcome.{IsOwn}

@@ -1,4 +1,4 @@
-use Rattle.std.proofs.Common.{◌≡◌, ◌∙◌, sym, ap, subst, List, ℕ, ◌++◌, ◌∷◌, []}
+use Rattle.std.proofs.Common.{◌∙◌, sym, ap, subst, List, ℕ, ◌++◌, ◌∷◌, []}
 use Rattle.usp_tool.specs.Lines.{lines_of}
 use Rattle.usp_tool.specs.Sign.{Signs, SignsAll}
 use Rattle.usp_tool.proofs.Signing.{signed_done, signed_first, signed_more, signed_refused}

@@ -1,4 +1,4 @@
-use Rattle.std.proofs.Common.{◌≡◌, subst}
+use Rattle.std.proofs.Common.{subst}
 use Rattle.usp_rules.specs.Judging.{Judges}
 use Rattle.usp_tool.proofs.Deciding.{denied_decided}
 use Rattle.usp_tool.proofs.verdict.decide.Goals as goal

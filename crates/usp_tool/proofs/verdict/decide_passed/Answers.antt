@@ -1,4 +1,4 @@
-use Rattle.std.proofs.Common.{IfOk, ◌≡◌, ◌∙◌, sym, ap, subst}
+use Rattle.std.proofs.Common.{◌∙◌, sym, ap, subst}
 use Rattle.std.specs.Option.{option_copied}
 use Rattle.usp_tool.specs.Check.{IsDecided}
 use Rattle.usp_tool.proofs.Deciding.{called_decided, free_decided}
