@@ -356,6 +356,7 @@ impl Claims {
         ensures value { result ≡ length (canon_members self.now) }
         ensures bound { result ≤ 6000 }
         ensures named { AreNamed self.now }
+        ensures set { IsClaimSet self.now }
     {
         self.text_len
     }

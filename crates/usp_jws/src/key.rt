@@ -59,6 +59,7 @@ impl Key {
     /// Takes copies of the name, the issuer and the secret.
     pub fn new(alloc: Global, kid: &[u8], issuer: &[u8], secret: &[u8]) -> Result<Key, KeyFault>
         ensures ok { IfOk result (λ k. (k.kid ≡ kid.now) × (k.issuer ≡ issuer.now) × (k.secret ≡ secret.now)) }
+        ensures limits { IfOk result (λ k. (is_kid kid.now ≡ true) × (is_identity issuer.now ≡ true) × (32 ≤ length secret.now) × (length secret.now ≤ 64)) }
         ensures refused { IfErr result (λ e. RefusesKey e kid.now issuer.now secret.now) }
     {
         if !is_kid(kid) {
