@@ -1,5 +1,5 @@
 -- What each test means.
-use Rattle.std.specs.Prelude.{ℕ, Bool, true, false, ◌&&◌, List}
+use Rattle.std.specs.Prelude.{ℕ, Bool, true, false, ◌&&◌, nat_le, List}
 use Rattle.std.specs.List.{list_all, list_any}
 use Rattle.std.specs.Option.{option_map_or}
 use Rattle.usp_json.specs.declared.value.Json.{Json}
@@ -19,6 +19,6 @@ abbrev pub means : TestKind → Setting → Json → List ℕ → Bool
 means Any Nothing value path = true
 means Equals (Words text) value path = is_this text value
 means OneOf (Several texts) value path = is_text_of texts.values value
-means AtMost (Number most) value path = is_number_up_to most value
+means AtMost (Number most) value path = nat_le most 9007199254740991 && is_number_up_to most value
 means PathPrefix Nothing value path = begins path value
 means _ _ value path = false

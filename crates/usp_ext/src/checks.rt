@@ -117,7 +117,7 @@ pub fn is_at_most(setting: &Setting, value: &Json, path: &[u8], _moment: u64) ->
     ensures { result ≡ means TestKind.AtMost setting.now value.now path.now }
 {
     match setting {
-        Setting::Number(most) => is_number_up_to(value, *most),
+        Setting::Number(most) => *most <= LAST_NUMBER && is_number_up_to(value, *most),
         _ => false,
     }
 }

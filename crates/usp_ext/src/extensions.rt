@@ -112,25 +112,17 @@ impl Extensions {
 
     /// Whether the value of that claim passes its test, by the kit's function of that kind. None exactly
     /// where the claim has none. It takes no memory.
-    pub fn holds(
-        &self,
-        kit: &Kit,
-        claim: &[u8],
-        value: &Json,
-        facts: &Facts<'_>,
-    ) -> Option<bool>
+    pub fn holds(&self, kit: &Kit, claim: &[u8], value: &Json, facts: &Facts<'_>) -> Option<bool>
         requires { facts.now.moment < 2 ^ 52 }
         ensures { result ≡ means_of self.now claim.now value.now facts.now.path.now }
     {
         let extension = listed_of(&self.listed, claim)?;
-        Some(
-            kit.answer(
-                extension.kind,
-                &extension.setting,
-                value,
-                facts.path,
-                facts.moment,
-            ),
-        )
+        Some(kit.answer(
+            extension.kind,
+            &extension.setting,
+            value,
+            facts.path,
+            facts.moment,
+        ))
     }
 }

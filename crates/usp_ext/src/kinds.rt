@@ -25,7 +25,7 @@ pub enum Setting {
     Words(Text),
     /// Of `OneOf`: texts alone.
     Several(Items),
-    /// Of `AtMost`.
+    /// Of `AtMost`: at most 2^53 - 1.
     Number(u64),
 }
 

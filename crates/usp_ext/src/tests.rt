@@ -35,6 +35,11 @@ fn fill(alloc: Global, extensions: &mut Extensions) -> Result<(), Fail> {
         ("equals null", TestKind::Equals, Setting::Nothing),
         ("one_of mixed", TestKind::OneOf, Setting::Several(mixed)),
         ("at_most null", TestKind::AtMost, Setting::Nothing),
+        (
+            "at_most 2^53",
+            TestKind::AtMost,
+            Setting::Number(9_007_199_254_740_992),
+        ),
         ("path_prefix 1", TestKind::PathPrefix, Setting::Number(1)),
     ];
     for (claim, kind, setting) in rows {
@@ -68,7 +73,7 @@ fn each_test_passes_what_its_kind_means(rt: HostRuntime) -> Result<(), Fail> {
     let kit = Kit::new(is_any, equals, is_one_of, is_at_most, is_path_prefix);
     let mut extensions = Extensions::empty(alloc);
     fill(alloc, &mut extensions)?;
-    let rows: [(&str, &[u8], Option<bool>); 27] = [
+    let rows: [(&str, &[u8], Option<bool>); 28] = [
         ("any", b"{\"v\":null}", Some(true)),
         ("any", b"{\"v\":[1]}", Some(true)),
         ("any 1", b"{\"v\":null}", Some(false)),
@@ -89,6 +94,7 @@ fn each_test_passes_what_its_kind_means(rt: HostRuntime) -> Result<(), Fail> {
         ("at_most", b"{\"v\":-1}", Some(false)),
         ("at_most", b"{\"v\":\"10\"}", Some(false)),
         ("at_most null", b"{\"v\":0}", Some(false)),
+        ("at_most 2^53", b"{\"v\":0}", Some(false)),
         ("path_prefix", b"{\"v\":\"/v\"}", Some(true)),
         ("path_prefix", b"{\"v\":\"\"}", Some(true)),
         ("path_prefix", b"{\"v\":\"/w\"}", Some(false)),
