@@ -1,15 +1,17 @@
 -- An input that is told, against what was read of it, and what the last put leaves.
-use Rattle.std.proofs.Common.{◌≡◌, ℕ, ◌<◌, ◌≤◌, ◌⊎◌, Bool, true, false, ◌||◌, nat_lt, codes, List, ◌++◌, length, Option, Some, None, IfSome, MatchBool, refl, sym, ap, ◌∙◌, subst, arith, inl, inr, length-append, append-nil}
+use Rattle.std.proofs.Common.{◌≡◌, ℕ, ◌<◌, ◌≤◌, ◌⊎◌, Bool, true, false, ◌||◌, nat_lt, codes, List, ◌++◌, length, take, Option, Some, None, IfSome, MatchBool, refl, sym, ap, ◌∙◌, subst, arith, inl, inr, length-append, append-nil}
 use Rattle.std.specs.Io.KnownBytes.{prepend_known, append_known, IsAtEnd}
 use Rattle.std.specs.List.{list_any}
 use Rattle.std.proofs.lemmas.Bool.{cases_lt}
 use borrow.Author.Tests.{lt-ltb, ltb-false}
 use Rattle.usp_base.specs.Outside.{Rose, file_of}
+use Rattle.usp_base.specs.declared.files.MemoryFile.{MemoryFile}
 use Rattle.usp_base.specs.declared.fault.Status.{Status}
 use Rattle.usp_base.specs.declared.fault.Status.TheVariants.{Done, Denials, Words, Refused, Outside, Memory}
+use Rattle.usp_conf.proofs.Refused as rows
 use Rattle.usp_conf.specs.Readings.{Configures}
 use Rattle.usp_conf.specs.Values.{ConfValue}
-use Rattle.usp_tool.specs.Answer.{Answers, LacksKey, Works, WorksInput, worked}
+use Rattle.usp_tool.specs.Answer.{Answers, IsRefusedUnread, LacksKey, Works, WorksInput, worked}
 use Rattle.usp_tool.specs.Lines.{is_long_input, is_long_line, lines_of}
 use Rattle.usp_tool.specs.Outcome.{IsOwn, Outcome, refused}
 use Rattle.usp_tool.specs.Run.{Around, ReadsWhole, Shows, ShowsWork, Worked, Wrote}
@@ -49,8 +51,8 @@ shows_own command conf around Done i w = w
 shows_own command conf around Denials i w = w
 shows_own command conf around Refused i w = w
 shows_own command conf around Words i w = absurd i
-shows_own command conf around Outside i w = tt
-shows_own command conf around Memory i w = tt
+shows_own command conf around Outside i w = absurd i
+shows_own command conf around Memory i w = absurd i
 
 -- what a put of an outcome leaves
 pub shows_put : (command : Command) (conf : List ℕ) (around : Around) (before faults : ℕ) (text : List ℕ) (status result : Status) (o : Outcome)
@@ -62,7 +64,8 @@ shows_put command conf around before faults text status result o answers own t s
     record { outcome = o; answers = answers; written = wrote.1 ∙ ap (append_known around.told) t; ends = refl } in
     subst (λ r. ShowsWork r command conf around) (sym ends) (shows_own command conf around o.status own w)
 shows_put command conf around before faults text status result o answers own t s (inr failed) =
-    subst (λ r. ShowsWork r command conf around) (sym failed.0) tt
+    subst (λ r. ShowsWork r command conf around) (sym failed.0)
+    (inr (record { outcome = o; answers = answers; count = failed.2; written = failed.3 ∙ ap (λ x. append_known around.told (take failed.2 x)) t }))
 
 not_outside : (status : Status) → IsOwn status → status ≡ Outside → ⊥
 not_outside Done i e = cc
@@ -113,9 +116,26 @@ read_whole command conf read o ended over works =
 -- what is shown of a command whose configuration was loaded
 pub shows_loaded : (status : Status) (command : Command) (conf : List ℕ) (around : Around)
     → IfSome around.files (λ files. file_of files (conf_name command) ≡ Some conf) → ShowsWork status command conf around → Shows status command around
-shows_loaded Done command conf around loaded w = record { conf = conf; loaded = loaded; worked = w }
-shows_loaded Denials command conf around loaded w = record { conf = conf; loaded = loaded; worked = w }
-shows_loaded Refused command conf around loaded w = record { conf = conf; loaded = loaded; worked = w }
+shows_loaded Done command conf around loaded w = record { conf = conf; loaded = loaded; says = w }
+shows_loaded Denials command conf around loaded w = record { conf = conf; loaded = loaded; says = w }
+shows_loaded Refused command conf around loaded w = record { conf = conf; loaded = loaded; says = w }
 shows_loaded Words command conf around loaded w = w
-shows_loaded Outside command conf around loaded w = tt
-shows_loaded Memory command conf around loaded w = tt
+shows_loaded Outside command conf around loaded (inl same) = inl same
+shows_loaded Outside command conf around loaded (inr part) = inr (record { conf = conf; loaded = loaded; says = part })
+shows_loaded Memory command conf around loaded w = w
+
+-- a configuration that is accepted, with its key, is not refused unread
+pub accepted : (command : Command) (conf : List ℕ) (value : ConfValue) → Configures conf value → (LacksKey command value → ⊥) → IsRefusedUnread command conf → ⊥
+accepted command conf value configures has (inl refused) = rows.refused refused.0 conf value refused.1 refused.2 configures
+accepted command conf value configures has (inr lacks) =
+    has (subst (λ v. LacksKey command v) (rows.only conf lacks.0 value lacks.1 configures) lacks.2)
+
+one_text : (a b : List ℕ) → Some a ≡ Some b → a ≡ b
+one_text a b e = cc
+
+-- the text that was loaded is the told one
+pub same_file : (files : Option (List MemoryFile)) (all : List MemoryFile) (name conf text : List ℕ) → files ≡ Some all → file_of all name ≡ Some conf
+    → IfSome files (λ files. file_of files name ≡ Some text) → text ≡ conf
+same_file None all name conf text e f h = let differ : ◌≡◌ {A = Option (List MemoryFile)} None (Some all) = e in cc
+same_file (Some these) all name conf text e f h =
+    let same : these ≡ all = cc in one_text text conf (sym h ∙ (ap (λ l. file_of l name) same ∙ f))

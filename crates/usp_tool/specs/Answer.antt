@@ -1,5 +1,5 @@
 -- What the program writes for a command, a configuration and an input.
-use Rattle.std.specs.Prelude.{◌≡◌, ℕ, List, [], ◌++◌, codes, Option, Some, None, IfSome, MatchBool}
+use Rattle.std.specs.Prelude.{◌≡◌, ◌⊎◌, ℕ, List, [], ◌++◌, codes, Option, Some, None, IfSome, MatchBool}
 use Rattle.usp_conf.specs.Readings.{Configures, RefusesConf}
 use Rattle.usp_conf.specs.Values.{ConfValue}
 use Rattle.usp_conf.specs.declared.fault.ConfFault.{ConfFault}
@@ -32,6 +32,11 @@ WorksInput command conf input outcome = MatchBool (is_long_input input) (outcome
 abbrev pub LacksKey : Command → ConfValue → Type 0
 LacksKey (check name) conf = ⊥
 LacksKey (sign name kid) conf = key_named conf.site.profile.ring kid ≡ None
+
+-- The configuration is refused, or has no key of the name that the command gives. The input is not read then.
+abbrev pub IsRefusedUnread : Command → List ℕ → Type 0
+IsRefusedUnread command conf =
+    ((found : ConfFault) × RefusesConf found conf × (found ≡ fault.NoMemory → ⊥)) ⊎ ((value : ConfValue) × Configures conf value × LacksKey command value)
 
 -- The outcome of a command and a configuration, and of the input where it is read: what is left to be read is that, if it is told.
 pub data Answers (command : Command) (conf : List ℕ) (left : Option (List ℕ)) (outcome : Outcome) : Type 0 where

@@ -1,5 +1,5 @@
 -- What a call of the program did.
-use Rattle.std.specs.Prelude.{◌≡◌, ◌⊎◌, ℕ, Bool, true, List, [], ◌∷◌, ◌++◌, Option, Some, None, IfSome}
+use Rattle.std.specs.Prelude.{◌≡◌, ◌⊎◌, ℕ, Bool, true, take, List, [], ◌∷◌, ◌++◌, Option, Some, None, IfSome}
 use Rattle.std.specs.Io.KnownBytes.{append_known}
 use Rattle.usp_base.specs.declared.fault.Status.{Status}
 use Rattle.usp_base.specs.declared.fault.Status.TheVariants.{Done, Denials, Words, Refused, Outside, Memory}
@@ -9,10 +9,11 @@ use Rattle.usp_tool.specs.Answer.{Answers}
 use Rattle.usp_tool.specs.Outcome.{Outcome}
 use Rattle.usp_tool.specs.Words.{Command, conf_name}
 
--- the text went out and the status is its own, or a put failed
+-- The text went out and the status is its own, or a put failed and a part of it went out.
 abbrev pub Wrote : (before now : Option (List ℕ)) (faults_before faults : ℕ) → List ℕ → Status → Status → Type 0
 Wrote before now faults_before faults text status result =
-    ((result ≡ status) × (now ≡ append_known before text)) ⊎ ((result ≡ Outside) × Rose faults_before faults)
+    ((result ≡ status) × (now ≡ append_known before text))
+    ⊎ ((result ≡ Outside) × Rose faults_before faults × (n : ℕ) × (now ≡ append_known before (take n text)))
 
 -- What is known of the files, the input and the output around a call.
 pub record Around : Type 0 where
@@ -28,26 +29,34 @@ pub record Worked (command : Command) (conf : List ℕ) (around : Around) (statu
   pub written : around.told_after ≡ append_known around.told outcome.text
   pub ends : status ≡ outcome.status
 
--- The configuration that the command names was loaded, and the command was worked under it.
-pub record Answered (command : Command) (around : Around) (status : Status) : Type 0 where
+-- A part of the text of such an outcome went out.
+pub record Partly (command : Command) (conf : List ℕ) (around : Around) : Type 0 where
+  pub outcome : Outcome
+  pub answers : Answers command conf around.left outcome
+  pub count : ℕ
+  pub written : around.told_after ≡ append_known around.told (take count outcome.text)
+
+-- The configuration that the command names was loaded, and that is said of it.
+pub record OfLoaded (Says : List ℕ → Type 0) (command : Command) (around : Around) : Type 0 where
   pub conf : List ℕ
   pub loaded : IfSome around.files (λ files. file_of files (conf_name command) ≡ Some conf)
-  pub worked : Worked command conf around status
+  pub says : Says conf
 
--- What a status says, where Says is what it says of a command that was worked.
-abbrev pub ShowsBy : (Status → Type 0) → Status → Type 0
-ShowsBy Says Done = Says Done
-ShowsBy Says Denials = Says Denials
-ShowsBy Says Refused = Says Refused
-ShowsBy Says Words = ⊥
-ShowsBy Says Outside = Unit {0}
-ShowsBy Says Memory = Unit {0}
+-- What a status says: of a command that was worked, of a part that went out where a put failed, or that nothing went out.
+abbrev pub ShowsBy : (Status → Type 0) → Type 0 → Around → Status → Type 0
+ShowsBy Says Part around Done = Says Done
+ShowsBy Says Part around Denials = Says Denials
+ShowsBy Says Part around Refused = Says Refused
+ShowsBy Says Part around Words = ⊥
+ShowsBy Says Part around Outside = (around.told_after ≡ around.told) ⊎ Part
+ShowsBy Says Part around Memory = around.told_after ≡ around.told
 
 abbrev pub ShowsWork : Status → Command → List ℕ → Around → Type 0
-ShowsWork status command conf around = ShowsBy (λ s. Worked command conf around s) status
+ShowsWork status command conf around = ShowsBy (λ s. Worked command conf around s) (Partly command conf around) around status
 
 abbrev pub Shows : Status → Command → Around → Type 0
-Shows status command around = ShowsBy (λ s. Answered command around s) status
+Shows status command around =
+    ShowsBy (λ s. OfLoaded (λ conf. Worked command conf around s) command around) (OfLoaded (λ conf. Partly command conf around) command around) around status
 
 -- A command asks for its configuration once, or for no file.
 abbrev pub AsksAtMost : Option Command → Option (List (List ℕ)) → Option (List (List ℕ)) → Type 0

@@ -1,7 +1,9 @@
 // The top call.
-ghost use Rattle.std.specs.Prelude.{◌≡◌, ◌⊎◌, map, string_bytes, IfSome, IfNone};
-ghost use Rattle.usp_base.specs.Outside.{Rose};
-ghost use Rattle.usp_tool.specs.Words.{command_of, usage};
+ghost use Rattle.std.specs.Prelude.{◌≡◌, ◌⊎◌, map, string_bytes, List, ℕ, Some, IfSome, IfNone};
+ghost use Rattle.usp_base.specs.Outside.{Rose, file_of};
+ghost use Rattle.usp_base.specs.declared.files.MemoryFile.{MemoryFile};
+ghost use Rattle.usp_tool.specs.Answer.{IsRefusedUnread};
+ghost use Rattle.usp_tool.specs.Words.{command_of, conf_name, usage};
 ghost use Rattle.usp_tool.specs.Run.{Wrote, Shows, Around, AsksAtMost, ReadsWhole};
 
 use crate::run_tool;
@@ -41,6 +43,10 @@ pub fn run<F: Files, S: Source, K: Sink>(
         ⊎ Rose (K.put_count outside.old.out) (K.put_count outside.new.out)) }
     ensures asked { AsksAtMost (command_of (map (λ w. string_bytes w) words.now)) (F.asked outside.old.files) (F.asked outside.new.files) }
     ensures whole { ReadsWhole result (S.ended outside.new.input) }
+    ensures unread { IfNone (command_of (map (λ w. string_bytes w) words.now)) (outside.new.input ≡ outside.old.input) }
+    ensures refused_unread { IfSome (command_of (map (λ w. string_bytes w) words.now)) (λ command. (all : List MemoryFile) (conf : List ℕ)
+        → F.files outside.old.files ≡ Some all → file_of all (conf_name command) ≡ Some conf → IsRefusedUnread command conf
+        → outside.new.input ≡ outside.old.input) }
 {
     run_tool(
         alloc,

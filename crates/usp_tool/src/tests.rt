@@ -3,8 +3,7 @@ use crate::{Outside, run};
 use std::alloc::{AllocError, Global};
 use std::test::Fail;
 use usp_base::{
-    ListedFiles, ListedSink, ListedSource, MemoryFile, Octets, Status, SteadyFiles, SteadySink,
-    SteadySource,
+    ListedFiles, ListedSink, ListedSource, MemoryFile, Octets, Status, SteadyFiles, SteadySource,
 };
 use usp_ext::{Kit, equals, is_any, is_at_most, is_one_of, is_path_prefix};
 
@@ -425,19 +424,58 @@ fn other_words_print_the_usage_line(rt: HostRuntime) -> Result<(), Fail> {
     Ok(())
 }
 
-#[test]
-fn a_fault_of_the_outside_is_status_4(rt: HostRuntime) -> Result<(), Fail> {
-    let alloc = rt.alloc();
-    let words = words_of(alloc, &["check", "c.json"])?;
-    let mut unread = Vec::new(alloc);
-    unread.push(0)?;
+// Runs the words over an input whose first read fails, and answers the status and what was written.
+fn runs_unread(alloc: Global, words: &[&str], conf: &str) -> Result<(Status, Vec<u8>), AllocError> {
+    let words = words_of(alloc, words)?;
+    let mut failing = Vec::new(alloc);
+    failing.push(0)?;
     let mut outside = Outside {
-        files: ListedFiles::new(alloc, one_file(alloc, CONF)?, Vec::new(alloc)),
-        input: ListedSource::new(Vec::new(alloc), 4, unread),
-        out: SteadySink,
+        files: ListedFiles::new(alloc, one_file(alloc, conf)?, Vec::new(alloc)),
+        input: ListedSource::new(b"50 http://h/v".to_vec(alloc)?, 4, failing),
+        out: ListedSink::new(alloc, Vec::new(alloc)),
         kit: Kit::new(is_any, equals, is_one_of, is_at_most, is_path_prefix),
     };
-    assert_eq!(rt; run(alloc, &words, &mut outside), Status::Outside);
+    let status = run(alloc, &words, &mut outside);
+    Ok((status, outside.out.bytes().to_vec(alloc)?))
+}
+
+#[test]
+fn an_input_is_read_only_under_an_accepted_configuration(rt: HostRuntime) -> Result<(), Fail> {
+    let alloc = rt.alloc();
+    let rows: [(&[&str], &str, Status, &[u8]); 5] = [
+        (&["check", "c.json"], CONF, Status::Outside, b""),
+        (&["check", "d.json"], CONF, Status::Outside, b""),
+        (
+            &["check", "c.json"],
+            "{}",
+            Status::Refused,
+            b"refused conf edge\n",
+        ),
+        (
+            &["sign", "c.json", "k9"],
+            CONF,
+            Status::Refused,
+            b"refused key\n",
+        ),
+        (
+            &["check"],
+            CONF,
+            Status::Words,
+            b"usage: usp sign CONF KID | check CONF\n",
+        ),
+    ];
+    for (words, conf, status, written) in rows {
+        let (ended, text) = runs_unread(alloc, words, conf)?;
+        assert_eq!(rt; ended, status);
+        assert_eq!(rt; text.as_slice(), written);
+    }
+    Ok(())
+}
+
+#[test]
+fn a_failed_put_is_status_4(rt: HostRuntime) -> Result<(), Fail> {
+    let alloc = rt.alloc();
+    let words = words_of(alloc, &["check", "c.json"])?;
     let mut unput = Vec::new(alloc);
     unput.push(0)?;
     let mut outside = Outside {

@@ -1,9 +1,11 @@
 // The commands of one thread.
-ghost use Rattle.std.specs.Prelude.{◌≡◌, ◌⊎◌, map, string_bytes, List, Option, IfSome, IfNone};
+ghost use Rattle.std.specs.Prelude.{◌≡◌, ◌⊎◌, map, string_bytes, List, ℕ, Option, Some, IfSome, IfNone};
 ghost use Rattle.std.specs.Io.KnownBytes.{append_known};
-ghost use Rattle.usp_base.specs.Outside.{Rose};
+ghost use Rattle.usp_base.specs.Outside.{Rose, file_of};
+ghost use Rattle.usp_conf.specs.Readings.{Configures};
+ghost use Rattle.usp_tool.specs.Answer.{IsRefusedUnread, LacksKey};
 ghost use Rattle.usp_base.specs.declared.files.MemoryFile.{MemoryFile};
-ghost use Rattle.usp_tool.specs.Words.{command_of, shown, usage};
+ghost use Rattle.usp_tool.specs.Words.{command_of, conf_name, shown, usage};
 ghost use Rattle.usp_tool.specs.Run.{Wrote, Shows, ShowsWork, Around, AsksAtMost, ReadsWhole};
 
 use crate::lines::LONGEST_INPUT;
@@ -12,6 +14,7 @@ use crate::words::{Command, command_of};
 use crate::work::{Prepared, prepare, work};
 use std::alloc::Global;
 use usp_base::{Files, LoadFault, Sink, Source, Status};
+use usp_conf::Conf;
 use usp_ext::Kit;
 
 const USAGE: &[u8] = b"usage: usp sign CONF KID | check CONF\n";
@@ -26,7 +29,33 @@ fn put_text<K: Sink>(out: &mut K, text: &[u8], status: Status) -> Status
     }
 }
 
-// The work of a command under a configuration's text.
+// The work of a command under its configuration.
+fn run_ready<S: Source, K: Sink>(
+    alloc: Global,
+    kit: &Kit,
+    command: &Command<'_>,
+    conf: &Conf,
+    input: &mut S,
+    out: &mut K,
+) -> Status
+    requires { LacksKey (shown command.now) conf.now → ⊥ }
+    ensures worked { (files : Option (List MemoryFile)) (text : List ℕ) → Configures text conf.now → ShowsWork result (shown command.now) text
+        (record { files = files; left = S.left input.old; told = K.told out.old; told_after = K.told out.new }) }
+    ensures outside { result ≡ Status.Outside → Rose (S.read_count input.old) (S.read_count input.new) ⊎ Rose (K.put_count out.old) (K.put_count out.new) }
+    ensures whole { ReadsWhole result (S.ended input.new) }
+{
+    let bytes = match read_up_to(alloc, input, LONGEST_INPUT) {
+        Ok(bytes) => bytes,
+        Err(LoadFault::Failed) => return Status::Outside,
+        Err(LoadFault::NoMemory) => return Status::Memory,
+    };
+    let Ok(answer) = work(alloc, kit, command, conf, &bytes) else {
+        return Status::Memory;
+    };
+    put_text(out, answer.text(), answer.status())
+}
+
+// The work of a command under a configuration's text. The input is read only where that is accepted.
 fn run_command<S: Source, K: Sink>(
     alloc: Global,
     kit: &Kit,
@@ -39,21 +68,13 @@ fn run_command<S: Source, K: Sink>(
         (record { files = files; left = S.left input.old; told = K.told out.old; told_after = K.told out.new }) }
     ensures outside { result ≡ Status.Outside → Rose (S.read_count input.old) (S.read_count input.new) ⊎ Rose (K.put_count out.old) (K.put_count out.new) }
     ensures whole { ReadsWhole result (S.ended input.new) }
+    ensures unread { IsRefusedUnread (shown command.now) text.now → input.new ≡ input.old }
 {
-    let conf = match prepare(alloc, command, text) {
-        Ok(Prepared::Ready(conf)) => conf,
-        Ok(Prepared::Refused(answer)) => return put_text(out, answer.text(), answer.status()),
-        Err(_) => return Status::Memory,
-    };
-    let bytes = match read_up_to(alloc, input, LONGEST_INPUT) {
-        Ok(bytes) => bytes,
-        Err(LoadFault::Failed) => return Status::Outside,
-        Err(LoadFault::NoMemory) => return Status::Memory,
-    };
-    let Ok(answer) = work(alloc, kit, command, &conf, &bytes) else {
-        return Status::Memory;
-    };
-    put_text(out, answer.text(), answer.status())
+    match prepare(alloc, command, text) {
+        Ok(Prepared::Ready(conf)) => run_ready(alloc, kit, command, &conf, input, out),
+        Ok(Prepared::Refused(answer)) => put_text(out, answer.text(), answer.status()),
+        Err(_) => Status::Memory,
+    }
 }
 
 /// `check CONF` and `sign CONF KID` (the words are those behind the program's name). The status 2 comes
@@ -74,6 +95,10 @@ pub fn run_tool<F: Files, S: Source, K: Sink>(
         ⊎ (Rose (S.read_count input.old) (S.read_count input.new) ⊎ Rose (K.put_count out.old) (K.put_count out.new)) }
     ensures asked { AsksAtMost (command_of (map (λ w. string_bytes w) words.now)) (F.asked files.old) (F.asked files.new) }
     ensures whole { ReadsWhole result (S.ended input.new) }
+    // Where the words are no command, or what the files tell of CONF is refused, the input is not read.
+    ensures unread { IfNone (command_of (map (λ w. string_bytes w) words.now)) (input.new ≡ input.old) }
+    ensures refused_unread { IfSome (command_of (map (λ w. string_bytes w) words.now)) (λ command. (all : List MemoryFile) (conf : List ℕ)
+        → F.files files.old ≡ Some all → file_of all (conf_name command) ≡ Some conf → IsRefusedUnread command conf → input.new ≡ input.old) }
 {
     let Some(command) = command_of(words) else {
         return put_text(out, USAGE, Status::Words);
