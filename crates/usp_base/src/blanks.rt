@@ -1,6 +1,6 @@
-// Texts without the spaces and tabs at their ends.
+//! Texts without the spaces and tabs at their ends.
 ghost use Rattle.std.specs.Prelude.{◌≡◌, ◌||◌, ◌==◌};
-ghost use Rattle.usp_base.specs.Blanks.{is_blank, trim_blanks, trim_end, trim_front};
+ghost use Rattle.usp_base.specs.Blanks.{is_blank, trim_blanks, trim_end, trim_start};
 
 fn is_blank(b: u8) -> bool
     ensures { result ≡ is_blank b }
@@ -8,8 +8,8 @@ fn is_blank(b: u8) -> bool
     b == b' ' || b == b'\t'
 }
 
-fn trim_front(text: &[u8]) -> &[u8]
-    ensures { result.now ≡ trim_front text.now }
+fn trim_start(text: &[u8]) -> &[u8]
+    ensures { result.now ≡ trim_start text.now }
 {
     let mut rest = text;
     while let Some((first, more)) = rest.split_first() {
@@ -38,5 +38,5 @@ fn trim_end(text: &[u8]) -> &[u8]
 pub fn trim_blanks(text: &[u8]) -> &[u8]
     ensures { result.now ≡ trim_blanks text.now }
 {
-    trim_end(trim_front(text))
+    trim_end(trim_start(text))
 }

@@ -1,4 +1,4 @@
-// Texts cut at a byte, or behind a prefix.
+//! Texts cut at a byte, or behind a prefix.
 ghost use Rattle.std.specs.Prelude.{◌≡◌, ◌==◌, position};
 ghost use Rattle.std.specs.Option.{option_map, option_copied};
 ghost use Rattle.usp_base.specs.Cuts.{cut_at, after_prefix, without_end};

@@ -1,9 +1,10 @@
-// Whole numbers in decimal.
+//! Whole numbers in decimal.
 ghost use Rattle.std.specs.Prelude.{◌≡◌, ◌<◌, ◌^◌};
 ghost use Rattle.std.specs.List.{list_all};
 ghost use Rattle.usp_base.specs.Numbers.{is_digit, is_whole, number_of};
 
-fn is_digit(b: u8) -> bool
+/// Whether the byte is a digit, 0 to 9.
+pub fn is_digit(b: u8) -> bool
     ensures { result ≡ is_digit b }
 {
     b >= b'0' && b <= b'9'
