@@ -15,8 +15,10 @@ use Rattle.usp_json.specs.Scalars.{text_in, number_in, level_text, level_number}
 use Rattle.usp_claims.specs.Table.{name_of, row, rows, whole_in, number_claim, IsClaimSet}
 use Rattle.usp_claims.specs.Changes.{with_claim}
 use Rattle.usp_claims.specs.declared.table.ClaimName.{ClaimName}
-use Rattle.usp_claims.specs.declared.table.ClaimKind.TheVariants.{Text, Number}
+use Rattle.usp_claims.specs.declared.table.ClaimName.TheVariants.{Aud}
+use Rattle.usp_claims.specs.declared.table.ClaimKind.TheVariants.{Text, TextOrTexts, Number}
 use Rattle.usp_claims.proofs.ChangeLaws.{this_claim, still_set}
+use Rattle.usp_claims.specs.declared.limits.TheConstants.{MAX_NUMBER}
 
 digit_within : (b : ℕ) → 48 ≤ b → b ≤ 57 → is_digit b ≡ true
 digit_within b l h = rw (le-leb 48 b l, le-leb b 57 h) refl
@@ -93,9 +95,13 @@ whole_number most n le small = rw (number_of_spelled (decimal n)) (spells_itself
 pub text_set : (place : ℕ) (name : ClaimName) (bytes : List ℕ) (m : Members) → slice_get rows place ≡ Some (row name Text) → IsClaimSet m → IsClaimSet (with_claim name (Str bytes) m)
 text_set place name bytes m there set = still_set place (row name Text) (Str bytes) m there (rw (text_of bytes) refl) refl set
 
-pub number_set : (place : ℕ) (name : ClaimName) (n : ℕ) (m : Members) → slice_get rows place ≡ Some (row name Number) → n ≤ 9007199254740991 → IsClaimSet m → IsClaimSet (with_claim name (Num (decimal n)) m)
-number_set place name n m there le set =
-    still_set place (row name Number) (Num (decimal n)) m there (rw (number_of_spelled (decimal n)) refl) (rw (whole_number 9007199254740991 n le (omega arith)) refl) set
+-- a text is an audience
+pub either_set : (bytes : List ℕ) (m : Members) → IsClaimSet m → IsClaimSet (with_claim Aud (Str bytes) m)
+either_set bytes m set = still_set 2 (row Aud TextOrTexts) (Str bytes) m refl (rw (text_of bytes) refl) refl set
 
-pub number_there : (name : ClaimName) (n : ℕ) (m : Members) → n ≤ 9007199254740991 → number_claim (name_of name) (with_claim name (Num (decimal n)) m) ≡ Some n
-number_there name n m le = rw (this_claim name (Num (decimal n)) m) (whole_number 9007199254740991 n le (omega arith))
+pub number_set : (place : ℕ) (name : ClaimName) (n : ℕ) (m : Members) → slice_get rows place ≡ Some (row name Number) → n ≤ MAX_NUMBER → IsClaimSet m → IsClaimSet (with_claim name (Num (decimal n)) m)
+number_set place name n m there le set =
+    still_set place (row name Number) (Num (decimal n)) m there (rw (number_of_spelled (decimal n)) refl) (rw (whole_number MAX_NUMBER n le (omega arith)) refl) set
+
+pub number_there : (name : ClaimName) (n : ℕ) (m : Members) → n ≤ MAX_NUMBER → number_claim (name_of name) (with_claim name (Num (decimal n)) m) ≡ Some n
+number_there name n m le = rw (this_claim name (Num (decimal n)) m) (whole_number MAX_NUMBER n le (omega arith))

@@ -19,6 +19,7 @@ use Rattle.usp_claims.proofs.Changed.{whole}
 use Rattle.usp_claims.proofs.Rows.{tells}
 use Rattle.usp_claims.proofs.Shorter.{escape_size, quoted, bracketed, behind_size, member_size}
 use Rattle.usp_json.proofs.CanonLaws.{canon_number, canon_string, canon_of}
+use Rattle.usp_claims.specs.declared.limits.TheConstants.{MAX_NUMBER}
 
 abbrev spelled : List ℕ × Json → List ℕ
 spelled entry = member_of (entry.0, canon entry.1)
@@ -156,7 +157,7 @@ pub grows : (name : ClaimName) (value : Json) (m : Members) → length (canon_me
 grows name value m = grows_by name value m (claim (name_of name) m) refl
 
 -- how long the values are that are made
-pub number_size : (n : ℕ) → n ≤ 9007199254740991 → length (canon (Num (decimal n))) ≤ 16
+pub number_size : (n : ℕ) → n ≤ MAX_NUMBER → length (canon (Num (decimal n))) ≤ 16
 number_size n le = rw (canon_number (decimal n)) (length-decimal-le 16 n (omega arith) (omega arith) (omega arith))
 
 escaped_size : (bytes : List ℕ) → length (escaped_text bytes) ≤ 6 * length bytes

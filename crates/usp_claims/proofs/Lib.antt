@@ -1,5 +1,6 @@
 pub mod ChangeLaws
 pub mod Changed
+pub mod Counts
 pub mod Decimals
 pub mod Lengths
 pub mod Named

@@ -6,6 +6,7 @@ use Rattle.std.proofs.lemmas.Slice.Zip.{length-zip}
 use lib.Utf8.{encode}
 use Rattle.usp_json.specs.declared.value.Json.{Json}
 use Rattle.usp_json.specs.declared.value.Members.{Members}
+use Rattle.usp_json.specs.declared.limits.TheConstants.{MAX_MEMBERS}
 use Rattle.usp_json.specs.Entries.{entries, members_of, place_of, IsPaired}
 use Rattle.usp_json.specs.Kept.{Keeps, KeepMembers, members, KeepsLimits}
 use Rattle.usp_json.specs.Spells.{given, has_name, IsReading}
@@ -41,13 +42,13 @@ shape_by name value m paired None h = at_the_end h (sym (absent name value m (me
 pub shape : (name : ClaimName) (value : Json) (m : Members) → IsPaired m → HasShape name value m
 shape name value m paired = shape_by name value m paired (place_of (name_of name) m.names) refl
 
-has_none : (name : List ℕ) (names : List (List ℕ)) → ((k : ℕ) → k < length names → bytes_eq (get_or names k []) name ≡ false) → has_name name names ≡ false
+pub has_none : (name : List ℕ) (names : List (List ℕ)) → ((k : ℕ) → k < length names → bytes_eq (get_or names k []) name ≡ false) → has_name name names ≡ false
 has_none name [] miss = refl
 has_none name (n ∷ names) miss =
     let is : bytes_eq n name ≡ false = miss 0 (omega arith) in
     rw is (has_none name names (λ k lt. miss (suc k) (omega arith)))
 
-fresh : (name : ClaimName) (m : Members) → place_of (name_of name) m.names ≡ None → has_name (name_of name) m.names ≡ false
+pub fresh : (name : ClaimName) (m : Members) → place_of (name_of name) m.names ≡ None → has_name (name_of name) m.names ≡ false
 fresh name m h = has_none (name_of name) m.names (none_at (name_of name) m.names h)
 
 pub still_named : (name : ClaimName) (value : Json) (m : Members) → AreNamed m → AreNamed (with_claim name value m)
@@ -60,7 +61,7 @@ still_named name value m n = elim (shape name value m n.paired) [
       })
 ]
 
-utf8_name : (name : ClaimName) → IsUtf8 (name_of name)
+pub utf8_name : (name : ClaimName) → IsUtf8 (name_of name)
 unfolding encode
 utf8_name Iss = (name_of Iss, (refl, refl))
 utf8_name Sub = (name_of Sub, (refl, refl))
@@ -77,20 +78,20 @@ utf8_name Ets = (name_of Ets, (refl, refl))
 utf8_name Stt = (name_of Stt, (refl, refl))
 utf8_name Std = (name_of Std, (refl, refl))
 
-few_names : (names : List (List ℕ)) (values : List Json) → length names ≡ length values → length (zip names values) ≤ 64 → length names ≤ 64
+few_names : (names : List (List ℕ)) (values : List Json) → length names ≡ length values → length (zip names values) ≤ MAX_MEMBERS → length names ≤ MAX_MEMBERS
 few_names names values same h = let n = length-zip names values in omega (arith, n, same, h)
 
-kept_shape : (name : ClaimName) (value : Json) (m : Members) → AreNamed m → KeepsLimits (members_of m.names m.values) → Keeps given given.levels value → length (entries (with_claim name value m)) ≤ 64 → HasShape name value m
+kept_shape : (name : ClaimName) (value : Json) (m : Members) → AreNamed m → KeepsLimits (members_of m.names m.values) → Keeps given given.levels value → length (entries (with_claim name value m)) ≤ MAX_MEMBERS → HasShape name value m
     → KeepsLimits (with_claim name value m)
 kept_shape name value m n k v few (in_place place is) = rw is (set_keeps m.names m.values place value k v)
 kept_shape name value m n k v few (at_the_end none is) =
     let paired : length (m.names ++ name_of name ∷ []) ≡ length (m.values ++ value ∷ []) = omega (arith, n.paired, length-append m.names (name_of name ∷ []), length-append m.values (value ∷ [])) in
-    let count = subst (λ (x : Members). length (entries x) ≤ 64) is few in
+    let count = subst (λ (x : Members). length (entries x) ≤ MAX_MEMBERS) is few in
     let l = few_names (m.names ++ name_of name ∷ []) (m.values ++ value ∷ []) paired count in
-    let room : length m.names < 64 = omega (arith, l, length-append m.names (name_of name ∷ [])) in
+    let room : length m.names < MAX_MEMBERS = omega (arith, l, length-append m.names (name_of name ∷ [])) in
     rw is (push_keeps m.names m.values (name_of name) value k v (utf8_name name) (fresh name m none) room)
 
-pub still_kept : (name : ClaimName) (value : Json) (m : Members) → KeepsLimits m → Keeps given given.levels value → length (entries (with_claim name value m)) ≤ 64 → KeepsLimits (with_claim name value m)
+pub still_kept : (name : ClaimName) (value : Json) (m : Members) → KeepsLimits m → Keeps given given.levels value → length (entries (with_claim name value m)) ≤ MAX_MEMBERS → KeepsLimits (with_claim name value m)
 still_kept name value m k v few =
     let n = kept_named m k in
     kept_shape name value m n (subst (λ (x : Members). KeepsLimits x) (sym (whole m)) k) v few (shape name value m n.paired)

@@ -14,6 +14,7 @@ use Rattle.usp_claims.specs.Faults.{fault_in, first_failing, RefusesClaims}
 use Rattle.usp_claims.specs.declared.table.ClaimName.TheVariants.{Uc}
 use Rattle.usp_claims.specs.declared.fault.ClaimFault.{ClaimFault}
 use Rattle.usp_claims.specs.declared.fault.ClaimFault.TheVariants.{TooLong, Json, Kind, Range, NoContainer, NoMemory}
+use Rattle.usp_claims.specs.declared.limits.TheConstants.{MAX_PAYLOAD}
 
 all_fit : {X : Type 0} (p : X → Bool) (xs : List X) → All (λ x. p x ≡ true) xs → find (λ x. not (p x)) xs ≡ None
 all_fit p [] h = refl
@@ -45,7 +46,7 @@ no_object payload m (Deep at) r n reads = r.0.no_reading m reads
 no_object payload m (Many at) r n reads = r.0.no_reading m reads
 no_object payload m NoJsonMemory r n reads = n refl
 
-pub no_claim_set : (fault : ClaimFault) (payload : List ℕ) (m : Members) → RefusesClaims fault payload → fault ≢ NoMemory → length payload ≤ 4096 → IsReading payload m → IsClaimSet m → ⊥
+pub no_claim_set : (fault : ClaimFault) (payload : List ℕ) (m : Members) → RefusesClaims fault payload → fault ≢ NoMemory → length payload ≤ MAX_PAYLOAD → IsReading payload m → IsClaimSet m → ⊥
 no_claim_set TooLong payload m r n short reads set = omega arith
 no_claim_set (Json fault) payload m r n short reads set = no_object payload m fault r.2 r.1 reads
 no_claim_set (Kind name) payload m r n short reads set = no_fault_of m r.1 payload (Kind name) reads r.2 r.3 set

@@ -1,8 +1,7 @@
 -- What a claim set says of each row.
-use Rattle.std.proofs.Common.{◌≡◌, ◌⊎◌, ℕ, zero, suc, ◌+◌, ◌≤◌, Bool, true, false, not, List, [], ◌∷◌, drop, length, Option, Some, None, inl, inr, refl, sym, subst, arith, if◌then◌else◌}
-use Rattle.std.specs.List.{All, find, list_all, list_any, slice_get}
+use Rattle.std.proofs.Common.{◌≡◌, ◌⊎◌, ℕ, zero, suc, ◌≤◌, Bool, true, false, not, List, [], ◌∷◌, length, Option, Some, None, inl, inr, refl, subst, arith, if◌then◌else◌}
+use Rattle.std.specs.List.{All, find}
 use Rattle.std.specs.Option.{is_some, option_map_or}
-use Rattle.usp_json.proofs.Pairs.{next_entry}
 use Rattle.usp_json.specs.declared.value.Json.{Json as JsonValue}
 use Rattle.usp_json.specs.declared.value.Members.{Members}
 use Rattle.usp_json.specs.Spells.{IsReading}
@@ -14,6 +13,7 @@ use Rattle.usp_claims.specs.declared.table.ClaimName.{ClaimName}
 use Rattle.usp_claims.specs.declared.table.Row.{Row}
 use Rattle.usp_claims.specs.declared.table.ClaimName.TheVariants.{Iss, Exp, Nbf, Iat, Jti, Version, Crit, Uc, Ets, Stt, Std}
 use Rattle.usp_claims.specs.declared.table.ClaimKind.TheVariants.{Text, Number, Period}
+use Rattle.usp_claims.specs.declared.limits.TheConstants.{MAX_PAYLOAD}
 
 pub tells : (b : Bool) → (b ≡ true) ⊎ (b ≡ false)
 tells true = inl refl
@@ -30,19 +30,6 @@ none_fails p (x ∷ xs) h k d lt = elim (tells (p x)) [
   | inl has ↦ let rest = rw has at h in first_and_rest p x xs has (none_fails p xs rest) k d lt
   | inr misses ↦ let some = rw misses at h in cc some
 ]
-
--- one more element of a list
-pub all_stops : {X : Type 0} (p : X → Bool) (xs : List X) (i : ℕ) (x : X) → slice_get xs i ≡ Some x → list_all p xs ≡ list_all p (drop i xs) → p x ≡ false → false ≡ list_all p xs
-all_stops p xs i x h e misses = let f = rw (next_entry xs i x h, misses) at e in sym f
-
-pub all_goes : {X : Type 0} (p : X → Bool) (xs : List X) (i : ℕ) (x : X) → slice_get xs i ≡ Some x → list_all p xs ≡ list_all p (drop i xs) → p x ≡ true → list_all p xs ≡ list_all p (drop (i + 1) xs)
-all_goes p xs i x h e has = let f = rw (next_entry xs i x h, has) at e in f
-
-pub any_stops : {X : Type 0} (p : X → Bool) (xs : List X) (i : ℕ) (x : X) → slice_get xs i ≡ Some x → list_any p xs ≡ list_any p (drop i xs) → p x ≡ true → true ≡ list_any p xs
-any_stops p xs i x h e has = let f = rw (next_entry xs i x h, has) at e in sym f
-
-pub any_goes : {X : Type 0} (p : X → Bool) (xs : List X) (i : ℕ) (x : X) → slice_get xs i ≡ Some x → list_any p xs ≡ list_any p (drop i xs) → p x ≡ false → list_any p xs ≡ list_any p (drop (i + 1) xs)
-any_goes p xs i x h e misses = let f = rw (next_entry xs i x h, misses) at e in f
 
 pub iss_fits : (m : Members) → IsClaimSet m → fits m (row Iss Text) ≡ true
 iss_fits m set = set.fitting 0 (row Iss Text) (omega arith)
@@ -117,7 +104,7 @@ no_fault m h =
     record { fitting = none_fails (λ each. fits m each) rows parts.0; contained = contained m parts.1 }
 
 -- a fault of the members is one of a row, or of the container
-of_row : (m : Members) (payload : List ℕ) (fault : ClaimFault) → length payload ≤ 4096 → IsReading payload m → fault_in m ≡ Some fault → IsOfMembers fault → RefusesClaims fault payload
+of_row : (m : Members) (payload : List ℕ) (fault : ClaimFault) → length payload ≤ MAX_PAYLOAD → IsReading payload m → fault_in m ≡ Some fault → IsOfMembers fault → RefusesClaims fault payload
 of_row m payload TooLong short reads is which = absurd which
 of_row m payload (Json fault) short reads is which = absurd which
 of_row m payload NoMemory short reads is which = absurd which
@@ -125,5 +112,5 @@ of_row m payload (Kind name) short reads is which = (short, m, reads, is)
 of_row m payload (Range name) short reads is which = (short, m, reads, is)
 of_row m payload NoContainer short reads is which = (short, m, reads, is)
 
-pub refuses : (m : Members) (payload : List ℕ) (fault : ClaimFault) → length payload ≤ 4096 → IsReading payload m → fault_in m ≡ Some fault → RefusesClaims fault payload
+pub refuses : (m : Members) (payload : List ℕ) (fault : ClaimFault) → length payload ≤ MAX_PAYLOAD → IsReading payload m → fault_in m ≡ Some fault → RefusesClaims fault payload
 refuses m payload fault short reads is = of_row m payload fault short reads is (which_fault m (first_failing m) fault is)

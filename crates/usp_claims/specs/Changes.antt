@@ -1,4 +1,4 @@
--- A claim set with one claim changed.
+-- A claim set (RFC 7519 section 4) with one claim changed.
 use Rattle.std.specs.Prelude.{ℕ, List, [], ◌∷◌, map, if◌then◌else◌}
 use Rattle.std.specs.Str.{bytes_eq}
 use Rattle.usp_json.specs.Entries.{entries, members_of, IsPaired}
@@ -11,7 +11,8 @@ use Rattle.usp_claims.specs.declared.table.ClaimName.{ClaimName}
 -- that value under that name: a name that is there keeps its place, and another goes last
 abbrev pub with_entry : List ℕ → Json → List (List ℕ × Json) → List (List ℕ × Json)
 with_entry name value [] = (name, value) ∷ []
-with_entry name value (entry ∷ more) = if bytes_eq entry.0 name then (entry.0, value) ∷ more else entry ∷ with_entry name value more
+with_entry name value (entry ∷ more) =
+    if bytes_eq entry.0 name then (entry.0, value) ∷ more else entry ∷ with_entry name value more
 
 abbrev pub of_entries : List (List ℕ × Json) → Members
 of_entries entries = members_of (map (λ entry. entry.0) entries) (map (λ entry. entry.1) entries)

@@ -1,4 +1,4 @@
--- Why a payload has no claim set.
+-- Why a payload has no claim set (RFC 7519 section 7.2).
 use Rattle.std.specs.Prelude.{◌≡◌, ◌≢◌, ℕ, ◌<◌, ◌≤◌, true, not, List, length, Option, Some, None, if◌then◌else◌}
 use Rattle.std.specs.List.{find}
 use Rattle.std.specs.Option.{option_map_or}
@@ -9,6 +9,7 @@ use Rattle.usp_json.specs.Spells.{IsReading}
 use Rattle.usp_json.specs.Faults.{Refuses}
 use Rattle.usp_claims.specs.Table.{rows, claim, name_of, has_kind, fits}
 use Rattle.usp_claims.specs.declared.table.ClaimName.TheVariants.{Uc}
+use Rattle.usp_claims.specs.declared.limits.TheConstants.{MAX_PAYLOAD}
 use Rattle.usp_claims.specs.declared.table.Row.{Row}
 use Rattle.usp_claims.specs.declared.fault.ClaimFault.{ClaimFault}
 use Rattle.usp_claims.specs.declared.fault.ClaimFault.TheVariants.{TooLong, Json, Kind, Range, NoContainer, NoMemory}
@@ -32,12 +33,13 @@ fault_in members = option_map_or (λ row. Some (failure members row)) (first_fai
 
 -- the payload is read as members that have this fault
 abbrev pub HasFault : ClaimFault → List ℕ → Type 0
-HasFault fault payload = (length payload ≤ 4096) × (members : Members) × IsReading payload members × (fault_in members ≡ Some fault)
+HasFault fault payload =
+    (length payload ≤ MAX_PAYLOAD) × (members : Members) × IsReading payload members × (fault_in members ≡ Some fault)
 
 -- what a fault says of a payload; want of memory is free
 abbrev pub RefusesClaims : ClaimFault → List ℕ → Type 0
-RefusesClaims TooLong payload = 4096 < length payload
-RefusesClaims (Json fault) payload = (length payload ≤ 4096) × (fault ≢ NoJsonMemory) × Refuses payload fault
+RefusesClaims TooLong payload = MAX_PAYLOAD < length payload
+RefusesClaims (Json fault) payload = (length payload ≤ MAX_PAYLOAD) × (fault ≢ NoJsonMemory) × Refuses payload fault
 RefusesClaims (Kind name) payload = HasFault (Kind name) payload
 RefusesClaims (Range name) payload = HasFault (Range name) payload
 RefusesClaims NoContainer payload = HasFault NoContainer payload

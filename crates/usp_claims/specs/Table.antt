@@ -7,7 +7,8 @@ use Rattle.usp_json.specs.Entries.{entries, value_of}
 use Rattle.usp_json.specs.declared.value.Json.{Json}
 use Rattle.usp_json.specs.declared.value.Members.{Members}
 use Rattle.usp_json.specs.Scalars.{text_in, number_in}
-use Rattle.usp_claims.specs.Values.{is_text, is_texts, is_this, lists}
+use Rattle.usp_json.specs.Values.{is_text, is_texts, is_this, lists}
+use Rattle.usp_claims.specs.declared.limits.TheConstants.{MAX_NUMBER, MAX_PERIOD}
 use Rattle.usp_claims.specs.declared.table.ClaimName.{ClaimName}
 use Rattle.usp_claims.specs.declared.table.ClaimName.TheVariants.{Iss, Sub, Aud, Exp, Nbf, Iat, Jti, Version, Crit, Ip, Uc, Ets, Stt, Std}
 use Rattle.usp_claims.specs.declared.table.ClaimKind.{ClaimKind}
@@ -36,8 +37,9 @@ row name kind = record { name = name; kind = kind }
 
 -- the table, in the order in which its rows are tried
 abbrev pub rows : List Row
-rows = row Iss Text ∷ row Sub Any ∷ row Aud TextOrTexts ∷ row Exp Number ∷ row Nbf Number ∷ row Iat Number ∷ row Jti Text
-    ∷ row Version Number ∷ row Crit Text ∷ row Ip Any ∷ row Uc Text ∷ row Ets Period ∷ row Stt Number ∷ row Std Number ∷ []
+rows = row Iss Text ∷ row Sub Any ∷ row Aud TextOrTexts ∷ row Exp Number ∷ row Nbf Number ∷ row Iat Number
+    ∷ row Jti Text ∷ row Version Number ∷ row Crit Text ∷ row Ip Any ∷ row Uc Text ∷ row Ets Period ∷ row Stt Number
+    ∷ row Std Number ∷ []
 
 -- the value of that name
 abbrev pub claim : List ℕ → Members → Option Json
@@ -55,15 +57,16 @@ has_kind Period value = is_some (number_in value)
 abbrev pub whole_in : ℕ → Json → Option ℕ
 whole_in most value = option_and_then (number_of most) (number_in value)
 
--- 2 ^ 53 - 1 for a number, and 2 ^ 52 for a period
+-- a number and a period have limits of their own
 abbrev pub in_range : ClaimKind → Json → Bool
-in_range Number value = is_some (whole_in 9007199254740991 value)
-in_range Period value = is_some (whole_in 4503599627370496 value)
+in_range Number value = is_some (whole_in MAX_NUMBER value)
+in_range Period value = is_some (whole_in MAX_PERIOD value)
 in_range _ value = true
 
 -- the row's claim is absent, or of its kind and in its range
 abbrev pub fits : Members → Row → Bool
-fits members of = option_map_or (λ value. has_kind of.kind value && in_range of.kind value) (claim (name_of of.name) members) true
+fits members of =
+    option_map_or (λ value. has_kind of.kind value && in_range of.kind value) (claim (name_of of.name) members) true
 
 -- A claim set of a signed URI: each claim that the table has is of its kind and in its range, and there is a container.
 pub record IsClaimSet (members : Members) : Type 0 where
@@ -75,11 +78,11 @@ abbrev pub text_claim : List ℕ → Members → Option (List ℕ)
 text_claim name members = option_and_then text_in (claim name members)
 
 abbrev pub number_claim : List ℕ → Members → Option ℕ
-number_claim name members = option_and_then (whole_in 9007199254740991) (claim name members)
+number_claim name members = option_and_then (whole_in MAX_NUMBER) (claim name members)
 
 -- the same for a period
 abbrev pub period_claim : List ℕ → Members → Option ℕ
-period_claim name members = option_and_then (whole_in 4503599627370496) (claim name members)
+period_claim name members = option_and_then (whole_in MAX_PERIOD) (claim name members)
 
 -- the audience is that identity, or a list that has it (RFC 7519 section 4.1.3)
 abbrev pub is_audience : List ℕ → Json → Bool

@@ -1,4 +1,5 @@
-// One claim changed.
+//! One claim changed.
+
 ghost use Rattle.std.specs.Prelude.{◌≡◌, ◌≤◌, length, IfOk, OnOk, OnErr, true};
 ghost use Rattle.std.specs.Option.{is_some, option_copied};
 ghost use Rattle.usp_json.specs.Canon.{canon, canon_members};
@@ -7,7 +8,7 @@ ghost use Rattle.usp_claims.specs.Changes.{with_claim};
 ghost use Rattle.usp_claims.specs.Table.{claim, name_of};
 ghost use Rattle.usp_claims.specs.declared.table.ClaimName.TheVariants.{Uc};
 
-use crate::{ClaimName, NoMemory};
+use crate::{ClaimName, MAX_CANONICAL, NoMemory};
 use std::alloc::Global;
 use usp_json::{Json, Members, Text, write_json};
 
@@ -56,8 +57,10 @@ pub(crate) fn length_with(
 ) -> Result<usize, NoMemory>
     requires length { text_len ≡ length (canon_members members.now) }
     requires some { is_some (claim (name_of Uc) members.now) ≡ true }
-    requires short { length (canon_members (with_claim name value.now members.now)) ≤ 6000 }
-    ensures { IfOk result (λ longer. longer ≡ length (canon_members (with_claim name value.now members.now))) }
+    requires short { length (canon_members (with_claim name value.now members.now))
+        ≤ MAX_CANONICAL }
+    ensures { IfOk result (λ longer.
+        longer ≡ length (canon_members (with_claim name value.now members.now))) }
 {
     let value_len = length_of(alloc, value)?;
     match claim_of(members, name) {

@@ -1,4 +1,5 @@
-// Claim sets.
+//! Claim sets.
+
 ghost use Rattle.std.specs.Prelude.{◌≡◌, ◌+◌, ◌≤◌, ◌||◌, true, not, codes, length, Some, IfOk, IfErr};
 ghost use Rattle.std.specs.List.{find};
 ghost use Rattle.std.specs.Option.{is_some, option_copied, option_map};
@@ -9,17 +10,15 @@ ghost use Rattle.usp_json.specs.Spells.{IsReading, given};
 ghost use Rattle.usp_claims.specs.Changes.{AreNamed, with_claim};
 ghost use Rattle.usp_claims.specs.Table.{IsClaimSet, claim, fits, is_audience, name_of, number_claim, period_claim, row, text_claim};
 ghost use Rattle.usp_claims.specs.declared.table.ClaimKind.TheVariants.{Number, Period, Text};
-ghost use Rattle.usp_claims.specs.Faults.{RefusesClaims, failure, fault_in, first_failing, json_fault};
+ghost use Rattle.usp_claims.specs.Faults.{RefusesClaims, failure, fault_in, first_failing};
 
 use crate::changes::{change, length_with};
 use crate::table::ROWS;
 use crate::values::{has_kind, in_range, is_audience, period_in, whole_in};
-use crate::{ClaimFault, ClaimName, NoMemory, Row};
+use crate::{ClaimFault, ClaimName, MAX_CANONICAL, MAX_PAYLOAD, NoMemory, Row};
 use std::alloc::Global;
 use std::marker::Model;
-use usp_json::{Json, JsonFault, Members, read_members, write_members};
-
-const LONGEST: usize = 4096;
+use usp_json::{Json, MAX_MEMBERS, Members, read_members, write_members};
 
 // Whether the row's claim is absent, or of its kind and in its range.
 fn fits(members: &Members, row: Row) -> bool
@@ -121,6 +120,7 @@ impl Model for Claims {
     ghost use Rattle.usp_json.specs.declared.value.Members.{Members};
     ghost use Rattle.usp_claims.specs.Table.{IsClaimSet};
     ghost use Rattle.usp_claims.specs.Changes.{AreNamed};
+    ghost use Rattle.usp_claims.specs.declared.limits.TheConstants.{MAX_CANONICAL};
 
     ghost Value = { Members };
 
@@ -128,17 +128,8 @@ impl Model for Claims {
 
     ghost view = { λ c. c.members };
 
-    ghost invariant = { λ c. IsClaimSet c.members × (c.text_len ≡ length (canon_members c.members)) × (c.text_len ≤ 6000) × AreNamed c.members };
-}
-
-// The fault of a payload that is no JSON.
-fn json_fault(fault: JsonFault) -> ClaimFault
-    ensures { result ≡ json_fault fault }
-{
-    match fault {
-        JsonFault::NoMemory => ClaimFault::NoMemory,
-        other => ClaimFault::Json(other),
-    }
+    ghost invariant = { λ c. IsClaimSet c.members × (c.text_len ≡ length (canon_members c.members))
+        × (c.text_len ≤ MAX_CANONICAL) × AreNamed c.members };
 }
 
 // Whether the members are a claim set.
@@ -152,24 +143,33 @@ fn check(members: &Members) -> Result<(), ClaimFault>
     }
 }
 
+// The members that a payload spells, which are a claim set.
+#[tactic(auto, using(crate::proofs::Rows::refuses))]
+fn members_in(alloc: Global, payload: &[u8]) -> Result<Members, ClaimFault>
+    ensures short { IfOk result (λ members. length payload.now ≤ MAX_PAYLOAD) }
+    ensures read { IfOk result (λ members. IsReading payload.now members) }
+    ensures set { IfOk result (λ members. IsClaimSet members) }
+    ensures refused { IfErr result (λ fault. RefusesClaims fault payload.now) }
+{
+    if payload.len() > MAX_PAYLOAD {
+        return Err(ClaimFault::TooLong);
+    }
+    let members = read_members(alloc, payload)?;
+    check(&members)?;
+    Ok(members)
+}
+
 /// Reads the claim set that a payload spells (RFC 7519 section 7.2, RFC 9246 section 2.1).
-#[tactic(auto, using(crate::proofs::Rows::refuses, crate::proofs::Shorter::no_longer, crate::proofs::Named::keeps, crate::proofs::Named::named))]
+#[tactic(auto, using(crate::proofs::Shorter::no_longer, crate::proofs::Named::keeps, crate::proofs::Named::named))]
 pub fn read_claims(alloc: Global, payload: &[u8]) -> Result<Claims, ClaimFault>
-    ensures short { IfOk result (λ claims. length payload.now ≤ 4096) }
+    ensures short { IfOk result (λ claims. length payload.now ≤ MAX_PAYLOAD) }
     ensures read { IfOk result (λ claims. IsReading payload.now claims) }
     ensures set { IfOk result (λ claims. IsClaimSet claims) }
     ensures keeps { IfOk result (λ claims. KeepsLimits claims) }
     ensures no_longer { IfOk result (λ claims. length (canon_members claims) ≤ length payload.now) }
     ensures refused { IfErr result (λ fault. RefusesClaims fault payload.now) }
 {
-    if payload.len() > LONGEST {
-        return Err(ClaimFault::TooLong);
-    }
-    let members = match read_members(alloc, payload) {
-        Ok(members) => members,
-        Err(fault) => return Err(json_fault(fault)),
-    };
-    check(&members)?;
+    let members = members_in(alloc, payload)?;
     let text_len = write_members(alloc, &members)?.len();
     Ok(Claims { members, text_len })
 }
@@ -178,8 +178,9 @@ pub fn read_claims(alloc: Global, payload: &[u8]) -> Result<Claims, ClaimFault>
 /// what must be escaped (RFC 8259 section 7).
 pub fn text(alloc: Global, claims: &Claims) -> Result<Vec<u8>, NoMemory>
     ensures canonical { IfOk result (λ text. text.items ≡ canon_members claims.now) }
-    ensures bound { IfOk result (λ text. length text.items ≤ 6000) }
-    ensures reads_back { IfOk result (λ text. KeepsLimits claims.now → IsReading text.items claims.now) }
+    ensures bound { IfOk result (λ text. length text.items ≤ MAX_CANONICAL) }
+    ensures reads_back { IfOk result (λ text.
+        KeepsLimits claims.now → IsReading text.items claims.now) }
 {
     Ok(write_members(alloc, &claims.members)?)
 }
@@ -202,10 +203,12 @@ impl Claims {
         value: Json,
     ) -> Result<Claims, (Claims, NoMemory)>
         requires set { IsClaimSet (with_claim name value self) }
-        requires short { length (canon_members (with_claim name value self)) ≤ 6000 }
+        requires short { length (canon_members (with_claim name value self)) ≤ MAX_CANONICAL }
         ensures changed { IfOk result (λ claims. claims ≡ with_claim name value self) }
-        ensures growth { IfOk result (λ claims. length (canon_members claims) ≤ length (canon_members self) + length (name_of name) + 4 + length (canon value)) }
-        ensures keeps { IfOk result (λ claims. KeepsLimits self → Keeps given given.levels value → length (entries claims) ≤ 64 → KeepsLimits claims) }
+        ensures growth { IfOk result (λ claims. length (canon_members claims)
+            ≤ length (canon_members self) + length (name_of name) + 4 + length (canon value)) }
+        ensures keeps { IfOk result (λ claims. KeepsLimits self → Keeps given given.levels value
+            → length (entries claims) ≤ MAX_MEMBERS → KeepsLimits claims) }
         ensures unchanged { IfErr result (λ refused. refused.0 ≡ self) }
     {
         let Claims { members, text_len } = self;
@@ -345,8 +348,9 @@ impl Claims {
     }
 
     /// Whether `sub` or `cdniip` is a claim: both are encrypted (RFC 9246 sections 2.1.2 and 2.1.10).
-    pub fn encrypted(&self) -> bool
-        ensures { result ≡ (is_some (claim (codes "sub") self.now) || is_some (claim (codes "cdniip") self.now)) }
+    pub fn has_encrypted(&self) -> bool
+        ensures { result ≡ (is_some (claim (codes "sub") self.now)
+            || is_some (claim (codes "cdniip") self.now)) }
     {
         self.members.find(b"sub").is_some() || self.members.find(b"cdniip").is_some()
     }
@@ -354,7 +358,7 @@ impl Claims {
     /// How many bytes the canonical text has.
     pub fn text_len(&self) -> usize
         ensures value { result ≡ length (canon_members self.now) }
-        ensures bound { result ≤ 6000 }
+        ensures bound { result ≤ MAX_CANONICAL }
         ensures named { AreNamed self.now }
         ensures set { IsClaimSet self.now }
     {

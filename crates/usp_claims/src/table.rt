@@ -1,4 +1,5 @@
-// The table of claims.
+//! The table of claims.
+
 ghost use Rattle.std.specs.Prelude.{◌≡◌};
 ghost use Rattle.usp_claims.specs.Table.{name_of};
 
@@ -44,9 +45,9 @@ pub enum ClaimKind {
     Text,
     /// A text, or a list of texts.
     TextOrTexts,
-    /// A whole number of digits alone, at most 2^53 - 1.
+    /// A whole number of digits alone, at most `MAX_NUMBER`.
     Number,
-    /// A whole number of digits alone, at most 2^52.
+    /// A whole number of digits alone, at most `MAX_PERIOD`.
     Period,
 }
 

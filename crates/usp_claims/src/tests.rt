@@ -1,15 +1,18 @@
-// Claim sets that are read, and payloads that have none.
+//! Claim sets that are read, and payloads that have none.
+
 ghost use Rattle.std.specs.Prelude.{◌≤◌, length};
 ghost use Rattle.usp_json.specs.Canon.{canon_members};
 ghost use Rattle.usp_claims.specs.Table.{IsClaimSet};
 
-use crate::{ClaimFault, ClaimName, Claims, NoMemory, read_claims, text};
+use crate::{ClaimFault, ClaimName, Claims, MAX_PAYLOAD, NoMemory, read_claims, text};
 use std::alloc::Global;
 use std::test::Fail;
 use usp_json::{Json, JsonFault, NumText, Text};
 
 const ALL: &[u8] =
-    b"{\"iss\":\"cp\",\"sub\":[],\"aud\":[\"a\",\"b\"],\"exp\":9007199254740991,\"nbf\":4,\"iat\":3,\"jti\":\"n\",\"cdniv\":1,\"cdnicrit\":\"x\",\"cdniuc\":\"hash:x\",\"cdniets\":4503599627370496,\"cdnistt\":1,\"cdnistd\":0,\"x\":null}";
+    b"{\"iss\":\"cp\",\"sub\":[],\"aud\":[\"a\",\"b\"],\"exp\":9007199254740991,\"nbf\":4,\"iat\":3,\
+\"jti\":\"n\",\"cdniv\":1,\"cdnicrit\":\"x\",\"cdniuc\":\"hash:x\",\
+\"cdniets\":4503599627370496,\"cdnistt\":1,\"cdnistd\":0,\"x\":null}";
 
 // Whether a claim is there with this text.
 fn is_text(found: Option<&[u8]>, expected: &[u8]) -> bool {
@@ -50,7 +53,7 @@ fn audiences_and_other_claims_are_found(rt: HostRuntime) -> Result<(), Fail> {
     let claims = read_claims(alloc, ALL)?;
     assert_eq!(rt; claims.aud_has(b"b"), Some(true));
     assert_eq!(rt; claims.aud_has(b"c"), Some(false));
-    assert!(rt; claims.encrypted());
+    assert!(rt; claims.has_encrypted());
     assert!(rt; matches!(claims.value(b"x"), Some(Json::Null)));
     assert!(rt; claims.value(b"y").is_none());
     assert_eq!(rt; claims.text_len(), ALL.len());
@@ -68,7 +71,7 @@ fn the_canonical_text_has_no_white_space(rt: HostRuntime) -> Result<(), Fail> {
     assert_eq!(rt; claims.text_len(), 27);
     assert_eq!(rt; claims.iss(), None);
     assert_eq!(rt; claims.aud_has(b"a"), None);
-    assert!(rt; !claims.encrypted());
+    assert!(rt; !claims.has_encrypted());
     Ok(())
 }
 
@@ -164,9 +167,9 @@ fn a_payload_has_at_most_4096_bytes(rt: HostRuntime) -> Result<(), Fail> {
 
 // The claims with that second as `exp`.
 #[tactic(auto, using(crate::proofs::Samples::expiry_set, crate::proofs::Samples::expiry_short))]
-fn expiring(alloc: Global, claims: Claims, second: u32) -> Result<Claims, NoMemory>
+fn with_expiry(alloc: Global, claims: Claims, second: u32) -> Result<Claims, NoMemory>
     requires set { IsClaimSet claims }
-    requires short { length (canon_members claims) ≤ 4096 }
+    requires short { length (canon_members claims) ≤ MAX_PAYLOAD }
 {
     let value = Json::Num(NumText::whole(alloc, u64::from(second))?);
     match claims.with(alloc, ClaimName::Exp, value) {
@@ -177,9 +180,9 @@ fn expiring(alloc: Global, claims: Claims, second: u32) -> Result<Claims, NoMemo
 
 // The claims with that text as `iss`.
 #[tactic(auto, using(crate::proofs::Samples::issuer_set, crate::proofs::Samples::issuer_short))]
-fn issued(alloc: Global, claims: Claims, issuer: &str) -> Result<Claims, NoMemory>
+fn with_issuer(alloc: Global, claims: Claims, issuer: &str) -> Result<Claims, NoMemory>
     requires set { IsClaimSet claims }
-    requires short { length (canon_members claims) ≤ 4096 }
+    requires short { length (canon_members claims) ≤ MAX_PAYLOAD }
     requires few { length issuer.now ≤ 100 }
 {
     let value = Json::Str(Text::of(alloc, issuer)?);
@@ -190,7 +193,7 @@ fn issued(alloc: Global, claims: Claims, issuer: &str) -> Result<Claims, NoMemor
 }
 
 // Whether the claims and a copy of them have that text.
-fn spell(alloc: Global, claims: &Claims, expected: &[u8]) -> Result<bool, NoMemory> {
+fn has_spelling(alloc: Global, claims: &Claims, expected: &[u8]) -> Result<bool, NoMemory> {
     let copied = claims.copy(alloc)?;
     let whole = text(alloc, claims)?;
     let again = text(alloc, &copied)?;
@@ -225,21 +228,70 @@ fn a_present_claim_keeps_its_place_and_an_absent_one_goes_last(
         ),
     ];
     for (payload, second, expected) in numbers {
-        let claims = expiring(alloc, read_claims(alloc, payload)?, second)?;
-        assert!(rt; spell(alloc, &claims, expected)?);
+        let claims = with_expiry(alloc, read_claims(alloc, payload)?, second)?;
+        assert!(rt; has_spelling(alloc, &claims, expected)?);
         assert_eq!(rt; claims.exp(), Some(u64::from(second)));
     }
-    let claims = issued(
+    let claims = with_issuer(
         alloc,
         read_claims(alloc, b"{\"iss\":\"cp\",\"cdniuc\":\"\"}")?,
         "cdn-\"a\"",
     )?;
     assert!(rt;
-        spell(
+        has_spelling(
             alloc,
             &claims,
             b"{\"iss\":\"cdn-\\\"a\\\"\",\"cdniuc\":\"\"}"
         )?
     );
+    Ok(())
+}
+
+// The example of the crate's first page.
+#[test]
+fn shows_the_example(rt: HostRuntime) -> Result<(), Fail> {
+    let alloc = rt.alloc();
+    let claims = read_claims(alloc, b"{ \"cdniuc\" : \"regex:.*\", \"exp\" : 1500 }")?;
+    assert_eq!(rt; claims.exp(), Some(1500));
+    assert_eq!(rt; claims.uc(), b"regex:.*".as_slice());
+    assert_eq!(rt;
+        text(alloc, &claims)?.as_slice(),
+        b"{\"cdniuc\":\"regex:.*\",\"exp\":1500}".as_slice()
+    );
+    Ok(())
+}
+
+#[test]
+fn says_what_to_mend(rt: HostRuntime) -> Result<(), Fail> {
+    let alloc = rt.alloc();
+    let name = ClaimName::Exp;
+    let table: [(ClaimFault, &str); 6] = [
+        (
+            ClaimFault::TooLong,
+            "more than 4096 bytes of claims: sign fewer of them",
+        ),
+        (
+            ClaimFault::Json(JsonFault::Many { at: 9 }),
+            "more than 64 members: end the object at byte 9",
+        ),
+        (
+            ClaimFault::Kind { name },
+            "`exp` is not of its kind: see the table of claims",
+        ),
+        (
+            ClaimFault::Range { name },
+            "`exp` is out of its range: write digits alone, at most 9007199254740991, or 4503599627370496 for a period",
+        ),
+        (
+            ClaimFault::NoContainer,
+            "no `cdniuc`: add the container of the URI",
+        ),
+        (ClaimFault::NoMemory, "out of memory"),
+    ];
+    for (fault, expected) in table {
+        assert_eq!(rt; fault.to_string(alloc)?.as_str(), expected);
+        assert_eq!(rt; fault.is_memory(), fault == ClaimFault::NoMemory);
+    }
+    assert_eq!(rt; NoMemory.to_string(alloc)?.as_str(), "out of memory");
     Ok(())
 }

@@ -1,4 +1,4 @@
--- The claims that have a test.
+-- The claims that have a test (RFC 9246 section 2.1.9).
 use Rattle.std.specs.Prelude.{◌≡◌, ℕ, Bool, true, List, Option}
 use Rattle.std.specs.List.{find}
 use Rattle.std.specs.Option.{is_some, option_map}
@@ -27,7 +27,8 @@ is_listed claim extensions = is_some (listed_of claim extensions)
 
 -- whether the value passes the test of that claim, where it has one
 abbrev pub means_of : List Extension → List ℕ → Json → List ℕ → Option Bool
-means_of extensions claim value path = option_map (λ listed. means listed.kind listed.setting value path) (listed_of claim extensions)
+means_of extensions claim value path =
+    option_map (λ listed. means listed.kind listed.setting value path) (listed_of claim extensions)
 
 -- what a refusal says; want of memory is free
 abbrev pub RefusesExtension : ExtFault → List ℕ → List Extension → Type 0

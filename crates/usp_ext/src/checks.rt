@@ -1,37 +1,13 @@
-// The five tests as plain functions, from which a caller makes its kit.
+//! The five tests as plain functions, from which a caller makes its kit.
+
 ghost use Rattle.std.specs.Prelude.{◌≡◌};
-ghost use Rattle.std.specs.List.{list_all, list_any};
-ghost use Rattle.usp_ext.specs.Values.{whole_in, is_text, is_this, begins, is_number_up_to};
+ghost use Rattle.usp_ext.specs.Values.{begins, is_number_up_to};
 ghost use Rattle.usp_ext.specs.Tests.{means, is_text_of};
 ghost use Rattle.usp_ext.specs.declared.kinds.TestKind.{TestKind};
 
 use crate::Setting;
-use usp_base::{after_prefix, read_number};
+use usp_claims::{MAX_NUMBER, whole_in};
 use usp_json::{Items, Json};
-
-pub(crate) const LAST_NUMBER: u64 = 9_007_199_254_740_991;
-
-// The whole number, spelled with digits alone and at most 2^53 - 1, that a value is.
-fn whole_in(value: &Json) -> Option<u64>
-    ensures { result ≡ whole_in value.now }
-{
-    read_number(value.number()?, LAST_NUMBER)
-}
-
-fn is_text(value: &Json) -> bool
-    ensures { result ≡ is_text value.now }
-{
-    value.text().is_some()
-}
-
-fn is_this(value: &Json, text: &[u8]) -> bool
-    ensures { result ≡ is_this text.now value.now }
-{
-    match value.text() {
-        None => false,
-        Some(other) => other == text,
-    }
-}
 
 // Whether the value is a text with which the path begins.
 fn begins(value: &Json, path: &[u8]) -> bool
@@ -53,35 +29,13 @@ fn is_number_up_to(value: &Json, most: u64) -> bool
     }
 }
 
-fn are_texts(items: &Items) -> bool
-    ensures { result ≡ list_all is_text items.now.values }
-{
-    for place in 0..items.len() {
-        if !is_text(items.at(place)) {
-            return false;
-        }
-    }
-    true
-}
-
-fn has_text(items: &Items, text: &[u8]) -> bool
-    ensures { result ≡ list_any (is_this text.now) items.now.values }
-{
-    for place in 0..items.len() {
-        if is_this(items.at(place), text) {
-            return true;
-        }
-    }
-    false
-}
-
 // Whether the value is a text of the list, which has texts alone.
 fn is_text_of(items: &Items, value: &Json) -> bool
     ensures { result ≡ is_text_of items.now.values value.now }
 {
     match value.text() {
         None => false,
-        Some(text) => are_texts(items) && has_text(items, text),
+        Some(text) => items.are_texts() && items.has_text(text),
     }
 }
 
@@ -97,7 +51,7 @@ pub fn equals(setting: &Setting, value: &Json, path: &[u8], _moment: u64) -> boo
     ensures { result ≡ means TestKind.Equals setting.now value.now path.now }
 {
     match setting {
-        Setting::Words(text) => is_this(value, text.text().as_bytes()),
+        Setting::Words(text) => value.is_this(text.text().as_bytes()),
         _ => false,
     }
 }
@@ -117,7 +71,7 @@ pub fn is_at_most(setting: &Setting, value: &Json, path: &[u8], _moment: u64) ->
     ensures { result ≡ means TestKind.AtMost setting.now value.now path.now }
 {
     match setting {
-        Setting::Number(most) => *most <= LAST_NUMBER && is_number_up_to(value, *most),
+        Setting::Number(most) => *most <= MAX_NUMBER && is_number_up_to(value, *most),
         _ => false,
     }
 }

@@ -1,12 +1,16 @@
-// The claims that have a test.
-ghost use Rattle.std.specs.Prelude.{◌≡◌, ◌<◌, ◌^◌, true, false, [], ◌∷◌, ◌++◌, OnErr, OnOk, IfErr};
+//! The claims that have a test.
+
+ghost use Rattle.std.specs.Prelude.{◌≡◌, ◌↔◌, ◌<◌, true, false, [], ◌∷◌, ◌++◌, OnErr, OnOk, IfErr};
 ghost use Rattle.std.specs.List.{find};
 ghost use Rattle.std.specs.Option.{is_some, option_copied};
 ghost use Rattle.usp_ext.specs.Listed.{is_of, is_listed, listed_of, means_of, extension, RefusesExtension};
 
 use crate::{Extension, Kit, Setting, TestKind};
-use std::alloc::Global;
+use std::alloc::{AllocFailed, Global};
+use std::error::Error;
+use std::fmt;
 use std::marker::Model;
+use usp_base::MOMENT_BOUND;
 use usp_json::{Json, Text};
 
 /// Why an extension is not added.
@@ -18,12 +22,43 @@ pub enum ExtFault {
     NoMemory,
 }
 
+impl ExtFault {
+    /// Whether this is want of memory, which says nothing of the claim.
+    pub fn is_memory(self) -> bool
+        ensures { (result ≡ true) ↔ (self ≡ ExtFault.NoMemory) }
+    {
+        matches!(self, ExtFault::NoMemory)
+    }
+}
+
+impl fmt::Display for ExtFault {
+    fn fmt<W: fmt::Write>(&self, f: &mut fmt::Formatter<W>) -> fmt::Result {
+        match self {
+            ExtFault::Repeat => write!(f, "a claim has two tests: take out one of them"),
+            ExtFault::NoMemory => write!(f, "out of memory"),
+        }
+    }
+}
+
+impl Error for ExtFault {}
+
+impl<T: Drop> From<AllocFailed<T>> for ExtFault {
+    ghost use Rattle.std.specs.Prelude.{◌≡◌};
+    ghost use Rattle.usp_ext.specs.declared.extensions.ExtFault.TheVariants.{NoMemory};
+
+    ghost from_gives = { λ _ e. e ≡ NoMemory };
+
+    fn from(_: AllocFailed<T>) -> Self {
+        ExtFault::NoMemory
+    }
+}
+
 /// What a test is asked beside the value.
 #[derive(Clone, Copy, Debug)]
 pub struct Facts<'a> {
     /// The path of the content.
     pub path: &'a [u8],
-    /// Seconds since 1970.
+    /// Seconds since 1970, below `usp_base::MOMENT_BOUND`.
     pub moment: u64,
 }
 
@@ -64,16 +99,15 @@ fn listed_of<'a>(listed: &'a [Extension], claim: &[u8]) -> Option<&'a Extension>
 fn add(listed: &mut Vec<Extension>, extension: Extension) -> Result<(), ExtFault>
     ensures added { OnOk result (listed.new.items ≡ listed.old.items ++ extension ∷ []) }
     ensures fresh { OnOk result (is_listed extension.claim listed.old.items ≡ false) }
-    ensures refused { IfErr result (λ fault. RefusesExtension fault extension.claim listed.old.items) }
+    ensures refused { IfErr result (λ fault.
+        RefusesExtension fault extension.claim listed.old.items) }
     ensures unchanged { OnErr result (listed.new.items ≡ listed.old.items) }
 {
     if listed_of(listed, extension.claim.text().as_bytes()).is_some() {
         return Err(ExtFault::Repeat);
     }
-    match listed.push(extension) {
-        Ok(()) => Ok(()),
-        Err(_) => Err(ExtFault::NoMemory),
-    }
+    listed.push(extension)?;
+    Ok(())
 }
 
 impl Extensions {
@@ -87,7 +121,7 @@ impl Extensions {
     }
 
     /// The claims in their order.
-    pub fn listed(&self) -> &[Extension]
+    pub fn as_slice(&self) -> &[Extension]
         ensures { result.now ≡ self.now }
     {
         &self.listed
@@ -113,7 +147,7 @@ impl Extensions {
     /// Whether the value of that claim passes its test, by the kit's function of that kind. None exactly
     /// where the claim has none. It takes no memory.
     pub fn holds(&self, kit: &Kit, claim: &[u8], value: &Json, facts: &Facts<'_>) -> Option<bool>
-        requires { facts.now.moment < 2 ^ 52 }
+        requires { facts.now.moment < MOMENT_BOUND }
         ensures { result ≡ means_of self.now claim.now value.now facts.now.path.now }
     {
         let extension = listed_of(&self.listed, claim)?;

@@ -1,4 +1,5 @@
-// The kinds of tests, and what each is told.
+//! The kinds of tests, and what each is told.
+
 use usp_json::{Items, Text};
 
 /// A test of a claim that a token says must be understood (RFC 9246 section 2.1.9).
@@ -25,7 +26,7 @@ pub enum Setting {
     Words(Text),
     /// Of `OneOf`: texts alone.
     Several(Items),
-    /// Of `AtMost`: at most 2^53 - 1.
+    /// Of `AtMost`: at most `usp_claims::MAX_NUMBER`.
     Number(u64),
 }
 

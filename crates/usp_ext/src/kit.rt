@@ -1,5 +1,7 @@
-// The tests as functions of the caller.
-ghost use Rattle.std.specs.Prelude.{◌≡◌, ◌<◌, ◌^◌};
+//! The tests as functions of the caller.
+
+ghost use Rattle.std.specs.Prelude.{◌≡◌, ◌<◌};
+ghost use Rattle.usp_base.specs.declared.clock.TheConstants.{MOMENT_BOUND};
 ghost use Rattle.usp_ext.specs.Tests.{means};
 ghost use Rattle.usp_ext.specs.declared.kinds.TestKind.{TestKind};
 
@@ -9,7 +11,7 @@ use usp_json::Json;
 /// A test of a claim's value under a setting, for the content of a path at a moment, in seconds since 1970.
 pub type TestFn = fn(&Setting, &Json, &[u8], u64) -> bool;
 
-/// A test for each kind. Each may be called at every moment below 2^52, and answers what its kind means.
+/// A test for each kind. Each may be called at every moment below `MOMENT_BOUND`, and answers what its kind means.
 #[derive(Clone, Copy)]
 pub struct Kit {
     any: TestFn,
@@ -17,16 +19,21 @@ pub struct Kit {
     one_of: TestFn,
     at_most: TestFn,
     path_prefix: TestFn,
-    ghost any_runs: { (s v p m : _) → m < 2 ^ 52 → TestFn.pre any s v p m },
-    ghost any_means: { (s v p m r : _) → TestFn.post any s v p m r → r ≡ means TestKind.Any s.now v.now p.now },
-    ghost equals_runs: { (s v p m : _) → m < 2 ^ 52 → TestFn.pre equals s v p m },
-    ghost equals_means: { (s v p m r : _) → TestFn.post equals s v p m r → r ≡ means TestKind.Equals s.now v.now p.now },
-    ghost one_of_runs: { (s v p m : _) → m < 2 ^ 52 → TestFn.pre one_of s v p m },
-    ghost one_of_means: { (s v p m r : _) → TestFn.post one_of s v p m r → r ≡ means TestKind.OneOf s.now v.now p.now },
-    ghost at_most_runs: { (s v p m : _) → m < 2 ^ 52 → TestFn.pre at_most s v p m },
-    ghost at_most_means: { (s v p m r : _) → TestFn.post at_most s v p m r → r ≡ means TestKind.AtMost s.now v.now p.now },
-    ghost path_prefix_runs: { (s v p m : _) → m < 2 ^ 52 → TestFn.pre path_prefix s v p m },
-    ghost path_prefix_means: { (s v p m r : _) → TestFn.post path_prefix s v p m r → r ≡ means TestKind.PathPrefix s.now v.now p.now },
+    ghost any_runs: { (s v p m : _) → m < MOMENT_BOUND → TestFn.pre any s v p m },
+    ghost any_means: { (s v p m r : _) → TestFn.post any s v p m r
+        → r ≡ means TestKind.Any s.now v.now p.now },
+    ghost equals_runs: { (s v p m : _) → m < MOMENT_BOUND → TestFn.pre equals s v p m },
+    ghost equals_means: { (s v p m r : _) → TestFn.post equals s v p m r
+        → r ≡ means TestKind.Equals s.now v.now p.now },
+    ghost one_of_runs: { (s v p m : _) → m < MOMENT_BOUND → TestFn.pre one_of s v p m },
+    ghost one_of_means: { (s v p m r : _) → TestFn.post one_of s v p m r
+        → r ≡ means TestKind.OneOf s.now v.now p.now },
+    ghost at_most_runs: { (s v p m : _) → m < MOMENT_BOUND → TestFn.pre at_most s v p m },
+    ghost at_most_means: { (s v p m r : _) → TestFn.post at_most s v p m r
+        → r ≡ means TestKind.AtMost s.now v.now p.now },
+    ghost path_prefix_runs: { (s v p m : _) → m < MOMENT_BOUND → TestFn.pre path_prefix s v p m },
+    ghost path_prefix_means: { (s v p m r : _) → TestFn.post path_prefix s v p m r
+        → r ≡ means TestKind.PathPrefix s.now v.now p.now },
 }
 
 impl Kit {
@@ -39,16 +46,22 @@ impl Kit {
         at_most: TestFn,
         path_prefix: TestFn,
     ) -> Kit
-        requires any_runs { (s v p m : _) → m < 2 ^ 52 → TestFn.pre any s v p m }
-        requires any_means { (s v p m r : _) → TestFn.post any s v p m r → r ≡ means TestKind.Any s.now v.now p.now }
-        requires equals_runs { (s v p m : _) → m < 2 ^ 52 → TestFn.pre equals s v p m }
-        requires equals_means { (s v p m r : _) → TestFn.post equals s v p m r → r ≡ means TestKind.Equals s.now v.now p.now }
-        requires one_of_runs { (s v p m : _) → m < 2 ^ 52 → TestFn.pre one_of s v p m }
-        requires one_of_means { (s v p m r : _) → TestFn.post one_of s v p m r → r ≡ means TestKind.OneOf s.now v.now p.now }
-        requires at_most_runs { (s v p m : _) → m < 2 ^ 52 → TestFn.pre at_most s v p m }
-        requires at_most_means { (s v p m r : _) → TestFn.post at_most s v p m r → r ≡ means TestKind.AtMost s.now v.now p.now }
-        requires path_prefix_runs { (s v p m : _) → m < 2 ^ 52 → TestFn.pre path_prefix s v p m }
-        requires path_prefix_means { (s v p m r : _) → TestFn.post path_prefix s v p m r → r ≡ means TestKind.PathPrefix s.now v.now p.now }
+        requires any_runs { (s v p m : _) → m < MOMENT_BOUND → TestFn.pre any s v p m }
+        requires any_means { (s v p m r : _) → TestFn.post any s v p m r
+            → r ≡ means TestKind.Any s.now v.now p.now }
+        requires equals_runs { (s v p m : _) → m < MOMENT_BOUND → TestFn.pre equals s v p m }
+        requires equals_means { (s v p m r : _) → TestFn.post equals s v p m r
+            → r ≡ means TestKind.Equals s.now v.now p.now }
+        requires one_of_runs { (s v p m : _) → m < MOMENT_BOUND → TestFn.pre one_of s v p m }
+        requires one_of_means { (s v p m r : _) → TestFn.post one_of s v p m r
+            → r ≡ means TestKind.OneOf s.now v.now p.now }
+        requires at_most_runs { (s v p m : _) → m < MOMENT_BOUND → TestFn.pre at_most s v p m }
+        requires at_most_means { (s v p m r : _) → TestFn.post at_most s v p m r
+            → r ≡ means TestKind.AtMost s.now v.now p.now }
+        requires path_prefix_runs { (s v p m : _) → m < MOMENT_BOUND
+            → TestFn.pre path_prefix s v p m }
+        requires path_prefix_means { (s v p m r : _) → TestFn.post path_prefix s v p m r
+            → r ≡ means TestKind.PathPrefix s.now v.now p.now }
     {
         Kit {
             any,
@@ -68,7 +81,7 @@ impl Kit {
         path: &[u8],
         moment: u64,
     ) -> bool
-        requires { moment < 2 ^ 52 }
+        requires { moment < MOMENT_BOUND }
         ensures { result ≡ means kind setting.now value.now path.now }
     {
         match kind {

@@ -1,4 +1,5 @@
-// What the tests of claims answer, and which claims may be added.
+//! What the tests of claims answer, and which claims may be added.
+
 use crate::{
     ExtFault, Extensions, Facts, Kit, Setting, TestKind, equals, is_any, is_at_most, is_one_of,
     is_path_prefix,
@@ -123,7 +124,48 @@ fn a_claim_has_one_test(rt: HostRuntime) -> Result<(), Fail> {
     for (claim, expected, count) in rows {
         let added = extensions.push(Text::of(alloc, claim)?, TestKind::Any, Setting::Nothing);
         assert_eq!(rt; added, expected);
-        assert_eq!(rt; extensions.listed().len(), count);
+        assert_eq!(rt; extensions.as_slice().len(), count);
     }
+    Ok(())
+}
+
+#[test]
+fn says_what_to_mend(rt: HostRuntime) -> Result<(), Fail> {
+    let alloc = rt.alloc();
+    let table = [
+        (
+            ExtFault::Repeat,
+            "a claim has two tests: take out one of them",
+            false,
+        ),
+        (ExtFault::NoMemory, "out of memory", true),
+    ];
+    for (fault, expected, memory) in table {
+        assert_eq!(rt; fault.to_string(alloc)?.as_str(), expected);
+        assert_eq!(rt; fault.is_memory(), memory);
+    }
+    Ok(())
+}
+
+// The example of the crate's first page.
+#[test]
+fn shows_the_example(rt: HostRuntime) -> Result<(), Fail> {
+    let alloc = rt.alloc();
+    let mut extensions = Extensions::empty(alloc);
+    extensions.push(
+        Text::of(alloc, "tier")?,
+        TestKind::AtMost,
+        Setting::Number(2),
+    )?;
+    let kit = Kit::new(is_any, equals, is_one_of, is_at_most, is_path_prefix);
+    let facts = Facts {
+        path: b"/v",
+        moment: 1500,
+    };
+    assert_eq!(rt;
+        extensions.holds(&kit, b"tier", &Json::Null, &facts),
+        Some(false)
+    );
+    assert_eq!(rt; extensions.holds(&kit, b"other", &Json::Null, &facts), None);
     Ok(())
 }

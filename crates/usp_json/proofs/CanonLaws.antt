@@ -15,9 +15,9 @@ use Rattle.usp_json.specs.declared.value.Json.TheFolds.{fold-roll-Json, fold-rol
 use Rattle.usp_json.specs.declared.value.Members.{Members}
 use Rattle.usp_json.specs.Entries.{members_of, object_of, array_of}
 use Rattle.usp_json.specs.Grammar.{hex_value, SpellsChar, plain, short, unit, SpellsChars, none as no_chars, more as more_chars, SpellsText}
-use Rattle.usp_json.specs.Spells.{Limits, given, AreApart, word_of, Spells, null as spells_null, boolean as spells_boolean, number as spells_number, string as spells_string, array as spells_array, object as spells_object, SpellsArray, no_items, items, SpellsItems, last_item, more_items, SpellsPadded, padded, SpellsObject, no_members, members as some_members, SpellsMembers, last_member, more_members, SpellsMember, member, IsReading}
+use Rattle.usp_json.specs.Spells.{Limits, given, AreApart, word_of, Spells, null as spells_null, boolean as spells_boolean, number as spells_number, string as spells_string, array as spells_array, object as spells_object, SpellsArray, no_items, items, SpellsItems, last_item, more_items, SpellsPadded, padded, SpellsObject, no_members, members as some_members, SpellsMembers, last_member, more_members, SpellsMember, member, IsReadingWithin, IsReading}
 use Rattle.usp_json.specs.Canon.{hex_digit, escape_of, escaped_text, canon_text, commas, member_of, canon, canon_members, canon_step, items_step, members_step}
-use Rattle.usp_json.specs.Kept.{Keeps, null, boolean, number, string, array, object, KeepEach, none, more, KeepMembers, members, AreUtf8, no_names, more_names, KeepsLimits}
+use Rattle.usp_json.specs.Kept.{Keeps, null, boolean, number, string, array, object, KeepEach, none, more, KeepMembers, members, AreUtf8, no_names, more_names, KeepsWithin, KeepsLimits}
 use Rattle.usp_json.proofs.CharLemmas.{between_true, between_high, differs, one, two_bytes, three_of, four_of, shape}
 
 pub escaped_append : (xs ys : List ℕ) → escaped_text (xs ++ ys) ≡ escaped_text xs ++ escaped_text ys
@@ -217,9 +217,9 @@ members_spelled : (limits : Limits) (n : ℕ) (names : List (List ℕ)) (values 
     → SpellsObject limits n names values (123 ∷ (commas (map member_of (zip names (map canon values))) ++ 125 ∷ []))
 members_spelled limits _ _ _ (members n names values same u apart few k) = object_canon limits n names values same u apart few (each_canon limits n values k)
 
--- what is written reads back
-pub reads_back : (m : Members) → KeepsLimits m → IsReading (canon_members m) m
-reads_back m k =
+-- what is written reads back, within any limits that it keeps
+pub reads_back_within : (limits : Limits) (m : Members) → KeepsWithin limits m → IsReadingWithin limits (canon_members m) m
+reads_back_within limits m k =
     let text = canon_members m in
     let same : text ≡ 123 ∷ (commas (map member_of (zip k.names (map canon k.values))) ++ 125 ∷ []) = rw k.is (canon_of k.names k.values) in
     record {
@@ -230,7 +230,10 @@ reads_back m k =
       names = k.names;
       values = k.values;
       is = k.is;
-      spells = subst (λ (l : List ℕ). SpellsObject given given.levels k.names k.values l) (sym same) (members_spelled given given.levels k.names k.values k.kept);
+      spells = subst (λ (l : List ℕ). SpellsObject limits limits.levels k.names k.values l) (sym same) (members_spelled limits limits.levels k.names k.values k.kept);
       ends = tt;
       whole = sym (append-nil text);
     }
+
+pub reads_back : (m : Members) → KeepsLimits m → IsReading (canon_members m) m
+reads_back m k = reads_back_within given m k

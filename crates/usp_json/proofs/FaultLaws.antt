@@ -24,7 +24,7 @@ use Rattle.usp_json.specs.Number.{number_first, number_step, is_whole_number}
 use Rattle.std.specs.Str.{IsUtf8}
 use Rattle.usp_json.specs.Spells.{Limits, number, has_name, given, with_a_level_more, with_a_member_more, with_equal_names, IsReadingWithin, IsReading, IsViableWithin}
 use Rattle.usp_json.specs.Machine.{State, at, put, opens, value_from, value_step, other_value, comma, comma_step, text_end, number_from, is_closing, step_at, step, run, start, ended, state_of, Fits, IsSound, is_deep_at, is_many_at, is_duplicate_at, fault_of}
-use Rattle.usp_json.specs.Faults.{StopsAt, GoesOnWithin, IsTooDeep, IsTooMany, IsDuplicate, Refuses}
+use Rattle.usp_json.specs.Faults.{StopsAt, GoesOnWithin, IsTooDeep, IsTooMany, IsDuplicate, RefusesJson}
 use Rattle.usp_json.proofs.Numbers.{tells, then_case, front_ends, is_number_complete}
 use Rattle.usp_json.proofs.PieceLaws.{PieceHolds, chars_utf8, hex_below, UnitFront}
 use Rattle.usp_json.proofs.ReadLaws.{reading_runs, one_step}
@@ -173,7 +173,7 @@ names_wider = record { levels = omega arith; members = omega arith; fresh = λ x
 comma_frame : (frame : Frame) (outer : List Frame) (n : ℕ) (g : List ℕ) → FrameWhole given n frame g → (t : State) × (comma_step with_a_member_more (frame ∷ outer) 44 ≡ Some t)
 comma_frame (Array values) outer n g r = (at Value (Array values ∷ outer), refl)
 comma_frame (OpenObject names values) outer n g r =
-    let more : ltb (length names) 65 ≡ true = lt-ltb (length names) 65 (omega (arith, r.2)) in
+    let more : ltb (length names) with_a_member_more.members ≡ true = lt-ltb (length names) with_a_member_more.members (omega (arith, r.2)) in
     (at Name (OpenObject names values ∷ outer), rw more refl)
 
 both : (x y : Bool) → (x && y) ≡ true → (x ≡ true) × (y ≡ true)
@@ -244,7 +244,7 @@ bracket_cases b h = elim (eqb_tells b 91) [
 ]
 
 opens_deeper : (frames : List Frame) (front : List ℕ) → ValuePlace given frames front → opens with_a_level_more frames ≡ true
-opens_deeper frames front p = le-leb (length frames) 16 (omega (arith, value_fits given frames front p))
+opens_deeper frames front p = le-leb (length frames) with_a_level_more.levels (omega (arith, value_fits given frames front p))
 
 value_deeper : (frames : List Frame) (b : ℕ) (front : List ℕ) → ValuePlace given frames front → (b ≡ 91) ⊎ (b ≡ 123) → (t : State) × (value_step with_a_level_more frames b ≡ Some t)
 value_deeper frames b front p h =
@@ -445,7 +445,7 @@ no_duplicate text i e got frames lt h n d g =
 
 -- a byte that the machine refuses
 pub refused : (text : List ℕ) (i : ℕ) (e : Expect) (got : List ℕ) (fs : List Frame) → i < length text → run given start (take i text) ≡ Some (state_of e got fs)
-    → step_at given e got (reverse fs) (get_or text i 0) ≡ None → Refuses text (fault_of e (get_or text i 0) i)
+    → step_at given e got (reverse fs) (get_or text i 0) ≡ None → RefusesJson (fault_of e (get_or text i 0) i) text
 refused text i e got fs lt h n =
     let b = get_or text i 0 in
     let s = state_of e got fs in
@@ -457,21 +457,23 @@ refused text i e got fs lt h n =
         | inl d ↦ let k = many_steps e got (reverse fs) (take i text) b p d in rw (nd, d) (stops, (k.0, goes_on with_a_member_more text i s k.1 member_wider (omega arith) lt h k.2))
         | inr nm ↦ elim (tells (is_duplicate_at e b)) [
           | inl d ↦ let k = duplicate_steps e got (reverse fs) (take i text) b p d in rw (nd, nm, d) (stops, (k.0, goes_on with_equal_names text i s k.1 names_wider (omega arith) lt h k.2))
-          | inr nu ↦ rw (nd, nm, nu) (stops, no_deep text i e got (reverse fs) lt h n nd, no_many text i e got (reverse fs) lt h n nm, no_duplicate text i e got (reverse fs) lt h n nu)
+          | inr nu ↦ rw (nd, nm, nu) (stops, (no_deep text i e got (reverse fs) lt h n nd, no_many text i e got (reverse fs) lt h n nm, no_duplicate text i e got (reverse fs) lt h n nu))
         ]
       ]
     ]
 
 -- the text ends too soon
-pub cut_short : (text : List ℕ) (i : ℕ) (e : Expect) (got : List ℕ) (fs : List Frame) → length text ≤ i → e ≢ End → run given start (take i text) ≡ Some (state_of e got fs) → Refuses text (Syntax (length text))
+pub cut_short : (text : List ℕ) (i : ℕ) (e : Expect) (got : List ℕ) (fs : List Frame) → length text ≤ i → e ≢ End → run given start (take i text) ≡ Some (state_of e got fs) → RefusesJson (Syntax (length text)) text
 cut_short text i e got fs le n h =
     let all : take i text ≡ text = take_all i text le in
     let run_all = rw all at h in
     let none = λ (m : Members) (r : IsReading text m). n (same_expect e got fs r.names r.values (sym run_all ∙ reading_runs given text m r)) in (
       record { no_reading = none; within = omega arith; front = rw (take_all (length text) text (omega arith)) (runs_viable given text (state_of e got fs) (omega arith) run_all); stops = λ lt. absurd (omega arith) },
-      (λ g. let lt = g.1.0 in absurd (omega arith)),
-      (λ g. let lt = g.1.0 in absurd (omega arith)),
-      (λ g. let lt = g.1.0 in absurd (omega arith)),
+      (
+        (λ g. let lt = g.1.0 in absurd (omega arith)),
+        (λ g. let lt = g.1.0 in absurd (omega arith)),
+        (λ g. let lt = g.1.0 in absurd (omega arith)),
+      ),
     )
 
 -- the bytes so far are what the code takes them for

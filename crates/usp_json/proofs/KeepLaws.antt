@@ -4,8 +4,8 @@ use Rattle.std.specs.Str.{IsUtf8}
 use Rattle.usp_json.specs.declared.value.Json.{Json}
 use Rattle.usp_json.specs.declared.value.Members.{Members}
 use Rattle.usp_json.specs.Entries.{members_of}
-use Rattle.usp_json.specs.Spells.{Limits, given, has_name, Spells, null as spells_null, boolean as spells_boolean, number as spells_number, string as spells_string, array as spells_array, object as spells_object, SpellsArray, no_items, items, SpellsItems, last_item, more_items, SpellsPadded, padded, SpellsObject, no_members, members as some_members, SpellsMembers, last_member, more_members, SpellsMember, member, IsReading}
-use Rattle.usp_json.specs.Kept.{Keeps, null, boolean, number, string, array, object, KeepEach, none, more, KeepMembers, members, AreUtf8, no_names, more_names, KeepsLimits}
+use Rattle.usp_json.specs.Spells.{Limits, given, has_name, Spells, null as spells_null, boolean as spells_boolean, number as spells_number, string as spells_string, array as spells_array, object as spells_object, SpellsArray, no_items, items, SpellsItems, last_item, more_items, SpellsPadded, padded, SpellsObject, no_members, members as some_members, SpellsMembers, last_member, more_members, SpellsMember, member, IsReadingWithin, IsReading}
+use Rattle.usp_json.specs.Kept.{Keeps, null, boolean, number, string, array, object, KeepEach, none, more, KeepMembers, members, AreUtf8, no_names, more_names, KeepsWithin, KeepsLimits}
 use Rattle.usp_json.proofs.GrowLaws.{apart_snoc}
 use Rattle.usp_json.proofs.PieceLaws.{chars_utf8}
 
@@ -57,8 +57,11 @@ mutual
   member_kept limits _ _ _ _ (member n name v before spelled after back text b s a p e) = (chars_utf8 name s.0 s.2, padded_kept limits n v back p)
 
 -- what was read keeps the limits
+pub reading_keeps_within : (limits : Limits) (text : List ℕ) (m : Members) → IsReadingWithin limits text m → KeepsWithin limits m
+reading_keeps_within limits text m r = record { names = r.names; values = r.values; is = r.is; kept = object_kept limits limits.levels r.names r.values r.inner r.spells }
+
 pub reading_keeps : (text : List ℕ) (m : Members) → IsReading text m → KeepsLimits m
-reading_keeps text m r = record { names = r.names; values = r.values; is = r.is; kept = object_kept given given.levels r.names r.values r.inner r.spells }
+reading_keeps text m r = reading_keeps_within given text m r
 
 -- a value in the place of another
 set_each : (limits : Limits) (n : ℕ) (values : List Json) (place : ℕ) (v : Json) → KeepEach limits n values → Keeps limits n v → KeepEach limits n (set values place v)
@@ -70,22 +73,22 @@ set_members : (limits : Limits) (n : ℕ) (names : List (List ℕ)) (values : Li
 set_members limits _ _ _ place v (members n names values same u apart few k) h = members n names (set values place v) (same ∙ sym (length-set values place v)) u apart few (set_each limits n values place v k h)
 
 -- a member behind the others
-snoc_each : (limits : Limits) (n : ℕ) (values : List Json) (v : Json) → KeepEach limits n values → Keeps limits n v → KeepEach limits n (values ++ v ∷ [])
+pub snoc_each : (limits : Limits) (n : ℕ) (values : List Json) (v : Json) → KeepEach limits n values → Keeps limits n v → KeepEach limits n (values ++ v ∷ [])
 snoc_each limits _ _ v (none n) k = more n v [] k (none n)
 snoc_each limits _ _ v (more n w ws h hs) k = more n w (ws ++ v ∷ []) h (snoc_each limits n ws v hs k)
 
-snoc_utf8 : (names : List (List ℕ)) (name : List ℕ) → AreUtf8 names → IsUtf8 name → AreUtf8 (names ++ name ∷ [])
+pub snoc_utf8 : (names : List (List ℕ)) (name : List ℕ) → AreUtf8 names → IsUtf8 name → AreUtf8 (names ++ name ∷ [])
 snoc_utf8 _ name no_names h = more_names name [] h no_names
 snoc_utf8 _ name (more_names other names u us) h = more_names other (names ++ name ∷ []) u (snoc_utf8 names name us h)
 
-push_members : (n : ℕ) (names : List (List ℕ)) (values : List Json) (name : List ℕ) (v : Json) → KeepMembers given n names values → Keeps given n v → IsUtf8 name → has_name name names ≡ false → length names < 64
+push_members : (n : ℕ) (names : List (List ℕ)) (values : List Json) (name : List ℕ) (v : Json) → KeepMembers given n names values → Keeps given n v → IsUtf8 name → has_name name names ≡ false → length names < given.members
     → KeepMembers given n (names ++ name ∷ []) (values ++ v ∷ [])
 push_members _ _ _ name v (members n names values same u apart few k) h utf8 fresh room =
     members n (names ++ name ∷ []) (values ++ v ∷ []) (omega (arith, same, length-append names (name ∷ []), length-append values (v ∷ []))) (snoc_utf8 names name u utf8)
     (apart_snoc given [] names name apart fresh) (omega (arith, length-append names (name ∷ []))) (snoc_each given n values v k h)
 
 -- the lists of members within the limits
-lists_kept : (names : List (List ℕ)) (values : List Json) → KeepsLimits (members_of names values) → KeepMembers given given.levels names values
+pub lists_kept : (names : List (List ℕ)) (values : List Json) → KeepsLimits (members_of names values) → KeepMembers given given.levels names values
 lists_kept names values k =
     let e : names ≡ k.names = ap (λ (m : Members). m.names) k.is in
     let f : values ≡ k.values = ap (λ (m : Members). m.values) k.is in
@@ -94,7 +97,7 @@ lists_kept names values k =
 pub set_keeps : (names : List (List ℕ)) (values : List Json) (place : ℕ) (v : Json) → KeepsLimits (members_of names values) → Keeps given given.levels v → KeepsLimits (members_of names (set values place v))
 set_keeps names values place v k h = record { names = names; values = set values place v; is = refl; kept = set_members given given.levels names values place v (lists_kept names values k) h }
 
-pub push_keeps : (names : List (List ℕ)) (values : List Json) (name : List ℕ) (v : Json) → KeepsLimits (members_of names values) → Keeps given given.levels v → IsUtf8 name → has_name name names ≡ false → length names < 64
+pub push_keeps : (names : List (List ℕ)) (values : List Json) (name : List ℕ) (v : Json) → KeepsLimits (members_of names values) → Keeps given given.levels v → IsUtf8 name → has_name name names ≡ false → length names < given.members
     → KeepsLimits (members_of (names ++ name ∷ []) (values ++ v ∷ []))
 push_keeps names values name v k h utf8 fresh room =
     record { names = names ++ name ∷ []; values = values ++ v ∷ []; is = refl; kept = push_members given.levels names values name v (lists_kept names values k) h utf8 fresh room }

@@ -4,7 +4,8 @@ use Rattle.std.specs.Fmt.{decimal}
 use Rattle.std.proofs.lemmas.Fmt.{decimal_by_steps}
 use Rattle.std.specs.Option.{option_and_then}
 use Rattle.std.proofs.lemmas.Bool.Decides.{eqb_tells}
-use Rattle.usp_json.specs.Grammar.{Each, is_digit, is_mark, is_sign, AreDigits, IsMinus, IsSigned, IsInteger, IsDecimal, IsNumber}
+use Rattle.usp_base.specs.Numbers.{is_digit}
+use Rattle.usp_json.specs.Grammar.{Each, is_mark, is_sign, AreDigits, IsMinus, IsSigned, IsInteger, IsDecimal, IsNumber}
 use Rattle.usp_json.specs.Number.{number_step, number_first, number_run, is_whole_number, ends_number, is_number}
 use Rattle.usp_json.specs.declared.states.NumberPart.{NumberPart}
 use Rattle.usp_json.specs.declared.states.NumberPart.TheVariants.{Minus, Zero, Whole, Point, Fraction, Mark, Sign, Exponent}

@@ -10,24 +10,24 @@ use Rattle.usp_json.specs.Entries.{value_of}
 
 pub ruleset length_zip = (length-zip)
 
-pub within_names : {A B : Type 0} (ns : List A) (vs : List B) (place : ℕ) → place < length (zip ns vs) → place < length ns
-within_names ns vs place h = omega (arith, length-zip ns vs)
+pub in_names : {A B : Type 0} (ns : List A) (vs : List B) (place : ℕ) → place < length (zip ns vs) → place < length ns
+in_names ns vs place h = omega (arith, length-zip ns vs)
 
-pub within_values : {A B : Type 0} (ns : List A) (vs : List B) (place : ℕ) → place < length (zip ns vs) → place < length vs
-within_values ns vs place h = omega (arith, length-zip ns vs)
+pub in_values : {A B : Type 0} (ns : List A) (vs : List B) (place : ℕ) → place < length (zip ns vs) → place < length vs
+in_values ns vs place h = omega (arith, length-zip ns vs)
 
 pub zip_nil : {A B : Type 0} (ns : List A) → zip {X = B} ns [] ≡ []
 zip_nil [] = refl
 zip_nil (n ∷ ns) = refl
 
-pub get_zip : {A B : Type 0} (ns : List A) (vs : List B) (place : ℕ) (n : A) (v : B) → slice_get ns place ≡ Some n → slice_get vs place ≡ Some v → slice_get (zip ns vs) place ≡ Some (n, v)
-get_zip [] vs place n v h k = cc
-get_zip (a ∷ ns) [] place n v h k = cc
-get_zip (a ∷ ns) (b ∷ vs) zero n v h k =
+pub both : {A B : Type 0} (ns : List A) (vs : List B) (place : ℕ) (n : A) (v : B) → slice_get ns place ≡ Some n → slice_get vs place ≡ Some v → slice_get (zip ns vs) place ≡ Some (n, v)
+both [] vs place n v h k = cc
+both (a ∷ ns) [] place n v h k = cc
+both (a ∷ ns) (b ∷ vs) zero n v h k =
     let e : a ≡ n = cc in
     let f : b ≡ v = cc in
     rw (e, f) refl
-get_zip (a ∷ ns) (b ∷ vs) (suc place) n v h k = get_zip ns vs place n v h k
+both (a ∷ ns) (b ∷ vs) (suc place) n v h k = both ns vs place n v h k
 
 pub zip_snoc : {A B : Type 0} (ns : List A) (vs : List B) (n : A) (v : B) → length ns ≡ length vs → zip (ns ++ n ∷ []) (vs ++ v ∷ []) ≡ zip ns vs ++ (n, v) ∷ []
 zip_snoc [] [] n v h = refl

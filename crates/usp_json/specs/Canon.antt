@@ -1,4 +1,4 @@
--- The one canonical spelling.
+-- The one canonical spelling (RFC 8259): no white space, and in texts only what section 7 says must be escaped.
 use Rattle.std.specs.Prelude.{ℕ, ◌+◌, ◌/◌, ◌%◌, ◌==◌, nat_lt, List, [], ◌∷◌, ◌++◌, codes, map, if◌then◌else◌}
 use Rattle.std.specs.List.{zip}
 use Rattle.usp_json.specs.declared.value.Json.{Json}
@@ -8,6 +8,7 @@ use Rattle.usp_json.specs.declared.value.Json.TheFolds.{fold-Json, fold-Items, f
 use Rattle.usp_json.specs.declared.value.Items.{Items}
 use Rattle.usp_json.specs.declared.value.Members.{Members}
 use Rattle.usp_json.specs.Spells.{word_of}
+use Rattle.usp_json.specs.Signs.{quotation_mark, value_separator, name_separator, begin_array, end_array, begin_object, end_object}
 
 -- a hexadecimal digit, in lower case
 abbrev pub hex_digit : ℕ → ℕ
@@ -18,7 +19,8 @@ abbrev pub escape_of : ℕ → List ℕ
 escape_of b =
     if b == 34 then codes "\\\"" else (if b == 92 then codes "\\\\" else (if b == 8 then codes "\\b"
     else (if b == 9 then codes "\\t" else (if b == 10 then codes "\\n" else (if b == 12 then codes "\\f"
-    else (if b == 13 then codes "\\r" else (if nat_lt b 32 then 92 ∷ 117 ∷ 48 ∷ 48 ∷ hex_digit (b / 16) ∷ hex_digit (b % 16) ∷ [] else b ∷ [])))))))
+    else (if b == 13 then codes "\\r"
+    else (if nat_lt b 32 then codes "\\u00" ++ hex_digit (b / 16) ∷ hex_digit (b % 16) ∷ [] else b ∷ [])))))))
 
 abbrev pub escaped_text : List ℕ → List ℕ
 escaped_text [] = []
@@ -26,12 +28,12 @@ escaped_text (b ∷ bytes) = escape_of b ++ escaped_text bytes
 
 -- a text in quotes
 abbrev pub canon_text : List ℕ → List ℕ
-canon_text bytes = 34 ∷ (escaped_text bytes ++ 34 ∷ [])
+canon_text bytes = quotation_mark ∷ (escaped_text bytes ++ quotation_mark ∷ [])
 
 -- spellings with a comma before each
 abbrev pub behind : List (List ℕ) → List ℕ
 behind [] = []
-behind (text ∷ texts) = 44 ∷ (text ++ behind texts)
+behind (text ∷ texts) = value_separator ∷ (text ++ behind texts)
 
 -- spellings with commas between them
 abbrev pub commas : List (List ℕ) → List ℕ
@@ -40,7 +42,7 @@ commas (text ∷ texts) = text ++ behind texts
 
 -- a name, a colon, and the spelling of its value
 abbrev pub member_of : List ℕ × List ℕ → List ℕ
-member_of m = canon_text m.0 ++ 58 ∷ m.1
+member_of m = canon_text m.0 ++ name_separator ∷ m.1
 
 -- one level, with the spelling of each value inside in its place: there is no white space
 abbrev pub canon_step : Json-F (List ℕ) (List ℕ) (List ℕ) → List ℕ
@@ -52,10 +54,10 @@ canon_step (level.List items) = items
 canon_step (level.Obj members) = members
 
 abbrev pub items_step : Items-F (List ℕ) (List ℕ) (List ℕ) → List ℕ
-items_step items = 91 ∷ (commas items.values ++ 93 ∷ [])
+items_step items = begin_array ∷ (commas items.values ++ end_array ∷ [])
 
 abbrev pub members_step : Members-F (List ℕ) (List ℕ) (List ℕ) → List ℕ
-members_step members = 123 ∷ (commas (map member_of (zip members.names members.values)) ++ 125 ∷ [])
+members_step members = begin_object ∷ (commas (map member_of (zip members.names members.values)) ++ end_object ∷ [])
 
 -- the canonical spelling of a value, and of an object
 abbrev pub canon : Json → List ℕ

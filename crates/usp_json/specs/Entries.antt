@@ -1,4 +1,4 @@
--- The members of an object as a list of pairs, each a name and its value.
+-- The members of an object as a list of pairs, each a name and its value (RFC 8259 section 4).
 use Rattle.std.specs.Prelude.{◌≡◌, ℕ, List, [], ◌∷◌, length, Option, Some, None, if◌then◌else◌}
 use Rattle.std.specs.List.{position, zip}
 use Rattle.std.specs.Str.{bytes_eq}

@@ -1,11 +1,17 @@
 -- The letters of JSON, and the spellings of its numbers and texts (RFC 8259, sections 2, 6 and 7).
-use Rattle.std.specs.Prelude.{◌≡◌, ◌≢◌, ◌⊎◌, ℕ, ◌+◌, ◌*◌, ◌-◌, ◌<◌, ◌≤◌, ◌==◌, ◌||◌, ◌&&◌, nat_le, Bool, true, List, [], ◌∷◌, ◌++◌, length, Option, Some, None, if◌then◌else◌, encode_utf8}
+use Rattle.std.specs.Prelude.{◌≡◌, ◌≢◌, ◌⊎◌, ℕ, ◌+◌, ◌*◌, ◌-◌, ◌<◌, ◌≤◌, ◌==◌, ◌||◌, ◌&&◌, nat_le, Bool, true, List, [], ◌∷◌, ◌++◌, length, slice_index, not, Option, Some, None, if◌then◌else◌, encode_utf8}
 use Rattle.std.specs.Char.{IsScalar}
+use Rattle.usp_base.specs.Numbers.{digit_0, is_digit}
+use Rattle.usp_json.specs.Signs.{quotation_mark, plus_sign, minus_sign, decimal_point, backslash}
 
 -- each byte passes the test
 abbrev pub Each : (ℕ → Bool) → List ℕ → Type 0
 Each test [] = Unit {0}
 Each test (b ∷ bs) = (test b ≡ true) × Each test bs
+
+-- each is a byte
+abbrev pub IsBytes : List ℕ → Type 0
+IsBytes text = (i : ℕ) → slice_index text i < 256
 
 -- white space: space, tab, line feed, carriage return
 abbrev pub is_space : ℕ → Bool
@@ -14,31 +20,29 @@ is_space b = b == 32 || b == 9 || b == 10 || b == 13
 abbrev pub IsSpace : List ℕ → Type 0
 IsSpace text = Each is_space text
 
-abbrev pub is_digit : ℕ → Bool
-is_digit b = nat_le 48 b && nat_le b 57
-
 -- one digit or more
 abbrev pub AreDigits : List ℕ → Type 0
 AreDigits text = (0 < length text) × Each is_digit text
 
 -- nothing, or a minus
 abbrev pub IsMinus : List ℕ → Type 0
-IsMinus text = (text ≡ []) ⊎ (text ≡ 45 ∷ [])
+IsMinus text = (text ≡ []) ⊎ (text ≡ minus_sign ∷ [])
 
 -- `0`, or digits of which the first is not 0
 abbrev pub IsWhole : List ℕ → Type 0
-IsWhole text = (text ≡ 48 ∷ []) ⊎ ((first : ℕ) × (rest : List ℕ) × (text ≡ first ∷ rest) × (is_digit first ≡ true) × (first ≢ 48) × Each is_digit rest)
+IsWhole text = (text ≡ digit_0 ∷ []) ⊎ ((first : ℕ) × (rest : List ℕ) × (text ≡ first ∷ rest)
+    × (is_digit first ≡ true) × (first ≢ digit_0) × Each is_digit rest)
 
 -- nothing, or a point and digits
 abbrev pub IsFraction : List ℕ → Type 0
-IsFraction text = (text ≡ []) ⊎ ((digits : List ℕ) × (text ≡ 46 ∷ digits) × AreDigits digits)
+IsFraction text = (text ≡ []) ⊎ ((digits : List ℕ) × (text ≡ decimal_point ∷ digits) × AreDigits digits)
 
 -- `e` or `E`; a plus or a minus
 abbrev pub is_mark : ℕ → Bool
 is_mark b = b == 101 || b == 69
 
 abbrev pub is_sign : ℕ → Bool
-is_sign b = b == 43 || b == 45
+is_sign b = b == plus_sign || b == minus_sign
 
 -- nothing, or one sign
 abbrev pub IsSigned : List ℕ → Type 0
@@ -74,8 +78,9 @@ pub record IsNumber (text : List ℕ) : Type 0 where
 -- the value of a hexadecimal digit
 abbrev pub hex_value : ℕ → Option ℕ
 hex_value b =
-    if nat_le 48 b && nat_le b 57 then Some (b - 48)
-    else (if nat_le 97 b && nat_le b 102 then Some (b - 87) else (if nat_le 65 b && nat_le b 70 then Some (b - 55) else None))
+    if is_digit b then Some (b - digit_0)
+    else (if nat_le 97 b && nat_le b 102 then Some (b - 87)
+    else (if nat_le 65 b && nat_le b 70 then Some (b - 55) else None))
 
 -- a `\u` with four hexadecimal digits of that value
 pub record IsUnit (unit : ℕ) (text : List ℕ) : Type 0 where
@@ -92,7 +97,7 @@ pub record IsUnit (unit : ℕ) (text : List ℕ) : Type 0 where
   pub third : hex_value c ≡ Some y
   pub fourth : hex_value d ≡ Some z
   pub value : unit ≡ ((w * 16 + x) * 16 + y) * 16 + z
-  pub spelled : text ≡ 92 ∷ 117 ∷ a ∷ b ∷ c ∷ d ∷ []
+  pub spelled : text ≡ backslash ∷ 117 ∷ a ∷ b ∷ c ∷ d ∷ []
 
 -- the character of a short escape, by its letter
 abbrev pub escaped : ℕ → Option ℕ
@@ -101,13 +106,18 @@ escaped b =
     else (if b == 98 then Some 8 else (if b == 102 then Some 12 else (if b == 110 then Some 10
     else (if b == 114 then Some 13 else (if b == 116 then Some 9 else None)))))))
 
+-- a byte that may stand for itself (`unescaped`): no control character, quote or backslash
+abbrev pub is_unescaped : ℕ → Bool
+is_unescaped b = nat_le 32 b && not (b == quotation_mark || b == backslash)
+
 -- a spelling of the character c: its own UTF-8, a short escape, its number, or a surrogate pair
 pub data SpellsChar (c : ℕ) (text : List ℕ) : Type 0 where
-  plain : IsScalar c → 32 ≤ c → c ≢ 34 → c ≢ 92 → text ≡ encode_utf8 c → SpellsChar c text
+  plain : IsScalar c → 32 ≤ c → c ≢ quotation_mark → c ≢ backslash → text ≡ encode_utf8 c → SpellsChar c text
   short : (letter : ℕ) → escaped letter ≡ Some c → text ≡ 92 ∷ letter ∷ [] → SpellsChar c text
   unit : IsScalar c → IsUnit c text → SpellsChar c text
   pair : (high low : ℕ) (front back : List ℕ) → 55296 ≤ high → high < 56320 → 56320 ≤ low → low < 57344
-      → c ≡ 65536 + (high - 55296) * 1024 + (low - 56320) → IsUnit high front → IsUnit low back → text ≡ front ++ back → SpellsChar c text
+      → c ≡ 65536 + (high - 55296) * 1024 + (low - 56320) → IsUnit high front → IsUnit low back → text ≡ front ++ back
+      → SpellsChar c text
 
 -- spellings of characters, one after the other, whose UTF-8 is those bytes
 pub data SpellsChars : List ℕ → List ℕ → Type 0 where
@@ -117,4 +127,5 @@ pub data SpellsChars : List ℕ → List ℕ → Type 0 where
 
 -- a spelling of the text of those bytes, in its quotes
 abbrev pub SpellsText : List ℕ → List ℕ → Type 0
-SpellsText bytes text = (inner : List ℕ) × (text ≡ 34 ∷ (inner ++ 34 ∷ [])) × SpellsChars bytes inner
+SpellsText bytes text =
+    (inner : List ℕ) × (text ≡ quotation_mark ∷ (inner ++ quotation_mark ∷ [])) × SpellsChars bytes inner

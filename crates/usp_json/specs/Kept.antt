@@ -1,4 +1,5 @@
--- The members that keep the limits: names apart, few members, few levels. Each number is one, and each text is UTF-8, as their types promise.
+-- The members that keep limits (RFC 8259 section 9): names apart, few members, few levels. Each number is one, and each
+-- text is UTF-8, as their types promise.
 use Rattle.std.specs.Prelude.{◌≡◌, ℕ, suc, ◌≤◌, Bool, List, [], ◌∷◌, length}
 use Rattle.std.specs.Str.{IsUtf8}
 use Rattle.usp_json.specs.declared.value.Json.{Json}
@@ -19,21 +20,29 @@ mutual
     boolean : (n : ℕ) (value : Json) (b : Bool) → value ≡ Boolean b → Keeps limits n value
     number : (n : ℕ) (value : Json) (text : List ℕ) → value ≡ Num text → IsNumber text → Keeps limits n value
     string : (n : ℕ) (value : Json) (bytes : List ℕ) → value ≡ Str bytes → IsUtf8 bytes → Keeps limits n value
-    array : (n : ℕ) (value : Json) (values : List Json) → value ≡ array_of values → KeepEach limits n values → Keeps limits (suc n) value
-    object : (n : ℕ) (value : Json) (names : List (List ℕ)) (values : List Json) → value ≡ object_of names values → KeepMembers limits n names values → Keeps limits (suc n) value
+    array : (n : ℕ) (value : Json) (values : List Json) → value ≡ array_of values → KeepEach limits n values
+        → Keeps limits (suc n) value
+    object : (n : ℕ) (value : Json) (names : List (List ℕ)) (values : List Json) → value ≡ object_of names values
+        → KeepMembers limits n names values → Keeps limits (suc n) value
 
   pub data KeepEach (limits : Limits) : ℕ → List Json → Type 0 where
     none : (n : ℕ) → KeepEach limits n []
-    more : (n : ℕ) (value : Json) (values : List Json) → Keeps limits n value → KeepEach limits n values → KeepEach limits n (value ∷ values)
+    more : (n : ℕ) (value : Json) (values : List Json) → Keeps limits n value → KeepEach limits n values
+        → KeepEach limits n (value ∷ values)
 
   -- a value for each name; the names are UTF-8
   pub data KeepMembers (limits : Limits) : ℕ → List (List ℕ) → List Json → Type 0 where
-    members : (n : ℕ) (names : List (List ℕ)) (values : List Json) → length names ≡ length values → AreUtf8 names → AreApart limits [] names → length names ≤ limits.members
+    members : (n : ℕ) (names : List (List ℕ)) (values : List Json) → length names ≡ length values → AreUtf8 names
+        → AreApart limits [] names → length names ≤ limits.members
         → KeepEach limits n values → KeepMembers limits n names values
 
--- the limits of `read_members`
-pub record KeepsLimits (m : Members) : Type 0 where
+-- members that keep those limits
+pub record KeepsWithin (limits : Limits) (m : Members) : Type 0 where
   pub names : List (List ℕ)
   pub values : List Json
   pub is : m ≡ members_of names values
-  pub kept : KeepMembers given given.levels names values
+  pub kept : KeepMembers limits limits.levels names values
+
+-- the limits of `read_members`
+abbrev pub KeepsLimits : Members → Type 0
+KeepsLimits = KeepsWithin given

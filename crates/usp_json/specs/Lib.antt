@@ -1,5 +1,7 @@
+pub mod Signs
 pub mod Entries
 pub mod Scalars
+pub mod Values
 pub mod Grammar
 pub mod Number
 pub mod Spells

@@ -1,4 +1,4 @@
--- The text or the number that a value is (RFC 8259, section 3).
+-- The text or the number that a value is (RFC 8259 section 3).
 use Rattle.std.specs.Prelude.{ℕ, List, Option, Some, None}
 use Rattle.usp_json.specs.declared.value.Json.{Json, out-Json}
 use Rattle.usp_json.specs.declared.value.Json.TheOpen.{Json-F}

@@ -1,4 +1,5 @@
-// Copies.
+//! Copies.
+
 ghost use Rattle.std.specs.Prelude.{◌≡◌, IfOk};
 
 use crate::{Items, Json, Members, NoMemory, NumText, Text};
@@ -14,7 +15,7 @@ impl Json {
         match self {
             Json::Null => Ok(Json::Null),
             Json::Bool(is) => Ok(Json::Bool(*is)),
-            Json::Num(number) => Ok(Json::Num(number.copied(alloc)?)),
+            Json::Num(number) => Ok(Json::Num(number.copy(alloc)?)),
             Json::Str(text) => Ok(Json::Str(Text::of(alloc, text.text())?)),
             Json::List(items) => {
                 let mut values = Row::new(alloc);

@@ -1,4 +1,5 @@
-// The arrays and objects that are open while a text is read.
+//! The arrays and objects that are open while a text is read.
+
 use crate::{Json, Text};
 use sqlite_items::Items as Row;
 

@@ -1,4 +1,5 @@
-// The members of an object.
+//! The members of an object.
+
 ghost use Rattle.std.specs.Prelude.{◌≡◌, ◌<◌, [], ◌∷◌, ◌++◌, length, slice_get, slice_set, Some, OnOk, OnErr};
 ghost use Rattle.std.specs.Option.{option_copied};
 ghost use Rattle.usp_json.specs.Entries.{entries, place_of, value_of, IsPaired};
@@ -42,7 +43,7 @@ impl Members {
     }
 
     /// The name and the value at that place, counted from 0.
-    #[tactic(auto, using(crate::proofs::Pairs::within_names, crate::proofs::Pairs::within_values, crate::proofs::Pairs::get_zip))]
+    #[tactic(auto, using(crate::proofs::Pairs::in_names, crate::proofs::Pairs::in_values, crate::proofs::Pairs::both))]
     pub fn at(&self, place: usize) -> (&Text, &Json)
         requires { place < length (entries self.now) }
         ensures { slice_get (entries self.now) place ≡ Some (result.0.now, result.1.now) }
@@ -54,7 +55,8 @@ impl Members {
     pub fn push(&mut self, name: Text, value: Json) -> Result<(), NoMemory>
         ensures names { OnOk result (self.new.names ≡ self.old.names ++ name ∷ []) }
         ensures values { OnOk result (self.new.values ≡ self.old.values ++ value ∷ []) }
-        ensures member { OnOk result (IsPaired self.old → entries self.new ≡ entries self.old ++ (name, value) ∷ []) }
+        ensures member { OnOk result (IsPaired self.old
+            → entries self.new ≡ entries self.old ++ (name, value) ∷ []) }
         ensures unchanged_names { OnErr result (self.new.names ≡ self.old.names) }
         ensures unchanged_values { OnErr result (self.new.values ≡ self.old.values) }
     {
@@ -69,7 +71,7 @@ impl Members {
     }
 
     /// Replaces the value at that place, counted from 0. It takes no memory.
-    #[tactic(auto, using(crate::proofs::Pairs::within_values))]
+    #[tactic(auto, using(crate::proofs::Pairs::in_values))]
     pub fn set(&mut self, place: usize, value: Json)
         requires { place < length (entries self.old) }
         ensures names { self.new.names ≡ self.old.names }

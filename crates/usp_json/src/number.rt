@@ -1,4 +1,5 @@
-// Numbers, kept as they were spelled.
+//! Numbers, kept as they were spelled.
+
 ghost use Rattle.std.specs.Prelude.{◌≡◌, IfOk, true};
 ghost use Rattle.std.specs.Fmt.{decimal};
 ghost use Rattle.usp_json.specs.Grammar.{IsNumber};
@@ -8,7 +9,7 @@ use crate::NoMemory;
 use std::alloc::Global;
 use std::marker::Model;
 
-/// A number as it was spelled (RFC 8259, section 6), which contracts see as its bytes.
+/// A number as it was spelled (RFC 8259 section 6), which contracts see as its bytes.
 #[derive(Debug, Drop)]
 pub struct NumText {
     spelled: Vec<u8>,
@@ -59,7 +60,7 @@ impl NumText {
     }
 
     /// Another number of the same spelling.
-    pub(crate) fn copied(&self, alloc: Global) -> Result<NumText, NoMemory>
+    pub(crate) fn copy(&self, alloc: Global) -> Result<NumText, NoMemory>
         ensures { IfOk result (λ n. n ≡ self.now) }
     {
         Ok(NumText {

@@ -1,4 +1,5 @@
-// The bytes of a text, one after the other.
+//! The bytes of a text, one after the other.
+
 ghost use Rattle.std.specs.Prelude.{◌≡◌, ◌<◌, ◌++◌, ◌∷◌, [], OnOk, IfOk, MatchOption, None, Some, true, false, encode_utf8};
 ghost use Rattle.usp_json.specs.Grammar.{hex_value, escaped};
 ghost use Rattle.usp_json.specs.Pieces.{between, start_step, letter_step, first_fits, second_fits, unit_step, digit_step, piece_step};
@@ -28,7 +29,7 @@ fn hex_value(b: u8) -> Option<u32>
     None
 }
 
-fn escaped(b: u8) -> Option<u32>
+fn short_escape(b: u8) -> Option<u32>
     ensures { result ≡ escaped b }
 {
     match b {
@@ -73,14 +74,16 @@ fn push_utf8(got: &mut Vec<u8>, c: u32) -> Result<(), AllocError>
 
 // The byte is kept.
 fn kept(got: &mut Vec<u8>, b: u8, next: Piece) -> Result<Option<Piece>, AllocError>
-    ensures { IfOk result (λ moved. (moved ≡ Some next) × (got.new.items ≡ got.old.items ++ b ∷ [])) }
+    ensures { IfOk result (λ moved.
+        (moved ≡ Some next) × (got.new.items ≡ got.old.items ++ b ∷ [])) }
 {
     got.push(b)?;
     Ok(Some(next))
 }
 
 fn start_step(got: &mut Vec<u8>, b: u8) -> Result<Option<Piece>, AllocError>
-    ensures { IfOk result (λ moved. MatchOption moved (start_step got.old.items b ≡ None) (λ next. start_step got.old.items b ≡ Some (next, got.new.items))) }
+    ensures { IfOk result (λ moved. MatchOption moved (start_step got.old.items b ≡ None)
+        (λ next. start_step got.old.items b ≡ Some (next, got.new.items))) }
 {
     if b == b'"' {
         return Ok(None);
@@ -158,12 +161,13 @@ fn start_step(got: &mut Vec<u8>, b: u8) -> Result<Option<Piece>, AllocError>
 }
 
 fn letter_step(got: &mut Vec<u8>, b: u8) -> Result<Option<Piece>, AllocError>
-    ensures { IfOk result (λ moved. MatchOption moved (letter_step got.old.items b ≡ None) (λ next. letter_step got.old.items b ≡ Some (next, got.new.items))) }
+    ensures { IfOk result (λ moved. MatchOption moved (letter_step got.old.items b ≡ None)
+        (λ next. letter_step got.old.items b ≡ Some (next, got.new.items))) }
 {
     if b == b'u' {
         return Ok(Some(Piece::First { high: 0 }));
     }
-    let Some(c) = escaped(b) else {
+    let Some(c) = short_escape(b) else {
         return Ok(None);
     };
     push_utf8(got, c)?;
@@ -206,7 +210,8 @@ fn unit_step(high: u32, got: &mut Vec<u8>, value: u32) -> Result<Piece, AllocErr
 fn digit_step(piece: Piece, got: &mut Vec<u8>, digit: u32) -> Result<Option<Piece>, AllocError>
     requires fits { Fits piece }
     requires digit { digit < 16 }
-    ensures { IfOk result (λ moved. MatchOption moved (digit_step piece got.old.items digit ≡ None) (λ next. digit_step piece got.old.items digit ≡ Some (next, got.new.items))) }
+    ensures { IfOk result (λ moved. MatchOption moved (digit_step piece got.old.items digit ≡ None)
+        (λ next. digit_step piece got.old.items digit ≡ Some (next, got.new.items))) }
 {
     match piece {
         Piece::First { high } => {
@@ -238,7 +243,9 @@ fn within_step(
     most: u8,
     next: Piece,
 ) -> Result<Option<Piece>, AllocError>
-    ensures { IfOk result (λ moved. MatchOption moved (between least most b ≡ false) (λ n. (between least most b ≡ true) × (n ≡ next) × (got.new.items ≡ got.old.items ++ b ∷ []))) }
+    ensures { IfOk result (λ moved. MatchOption moved (between least most b ≡ false)
+        (λ n. (between least most b ≡ true) × (n ≡ next)
+        × (got.new.items ≡ got.old.items ++ b ∷ []))) }
 {
     if between(least, most, b) {
         return kept(got, b, next);
@@ -253,7 +260,8 @@ pub(crate) fn piece_step(
     b: u8,
 ) -> Result<Option<Piece>, AllocError>
     requires { Fits piece }
-    ensures { IfOk result (λ moved. MatchOption moved (piece_step piece got.old.items b ≡ None) (λ next. piece_step piece got.old.items b ≡ Some (next, got.new.items))) }
+    ensures { IfOk result (λ moved. MatchOption moved (piece_step piece got.old.items b ≡ None)
+        (λ next. piece_step piece got.old.items b ≡ Some (next, got.new.items))) }
 {
     match piece {
         Piece::Start => start_step(got, b),

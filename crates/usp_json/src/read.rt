@@ -1,7 +1,8 @@
-// Reading.
+//! Reading.
+
 ghost use Rattle.std.specs.Prelude.{◌≡◌, ◌≢◌, ◌∷◌, [], reverse, Some, IfOk, IfErr, MatchOption};
 ghost use Rattle.usp_json.specs.Spells.{IsReading};
-ghost use Rattle.usp_json.specs.Faults.{Refuses};
+ghost use Rattle.usp_json.specs.Faults.{RefusesJson};
 ghost use Rattle.usp_json.specs.Machine.{is_deep_at, is_many_at, is_duplicate_at, fault_of};
 ghost use Rattle.usp_json.specs.Entries.{members_of};
 ghost use Rattle.usp_json.specs.declared.frame.Frame.TheVariants.{Object};
@@ -61,8 +62,10 @@ fn fault_of(expect: Expect, b: u8, at: usize) -> JsonFault
 
 // The members of the only frame that is left.
 fn last_members(frames: &mut Vec<Frame>) -> Option<Members>
-    ensures { MatchOption result ((names values : _) → reverse frames.old.items ≢ Object names values ∷ [])
-        (λ m. (names values : _) → reverse frames.old.items ≡ Object names values ∷ [] → m ≡ members_of names values) }
+    ensures { MatchOption result
+        ((names values : _) → reverse frames.old.items ≢ Object names values ∷ [])
+        (λ m. (names values : _) → reverse frames.old.items ≡ Object names values ∷ []
+        → m ≡ members_of names values) }
 {
     let Some(Frame::Object { names, values }) = frames.pop() else {
         return None;
@@ -70,11 +73,11 @@ fn last_members(frames: &mut Vec<Frame>) -> Option<Members>
     Some(Members { names, values })
 }
 
-/// Reads one object with white space round it: any spelling of RFC 8259, with at most 16 levels, at most 64 members in
-/// each object, and no two equal names in one. A number is kept as it was spelled.
+/// Reads one object with white space round it: any spelling of RFC 8259, with at most `MAX_LEVELS` levels, at most
+/// `MAX_MEMBERS` members in each object, and no two equal names in one. A number is kept as it was spelled.
 pub fn read_members(alloc: Global, text: &[u8]) -> Result<Members, JsonFault>
     ensures ok { IfOk result (λ m. IsReading text.now m) }
-    ensures fault { IfErr result (λ e. Refuses text.now e) }
+    ensures fault { IfErr result (λ e. RefusesJson e text.now) }
 {
     let mut expect = Expect::Object;
     let mut got = Vec::new(alloc);

@@ -1,4 +1,4 @@
-// What a reader of JSON is in the middle of, from one byte to the next.
+//! What a reader of JSON is in the middle of, from one byte to the next.
 
 /// Which part of a number its last byte belongs to.
 #[derive(Clone, Copy, Debug, PartialEq, Eq)]

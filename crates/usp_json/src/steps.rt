@@ -1,33 +1,25 @@
-// What one more byte does to the open arrays and objects.
+//! What one more byte does to the open arrays and objects.
+
 ghost use Rattle.std.specs.Prelude.{◌≡◌, ◌<◌, ◌++◌, ◌∷◌, [], length, reverse, drop, slice_get, OnOk, IfOk, MatchOption, None, Some, true, false, ◌==◌, if◌then◌else◌};
 ghost use Rattle.std.specs.Str.{IsUtf8, bytes_eq};
+ghost use Rattle.usp_json.specs.Signs.{decimal_point};
 ghost use Rattle.usp_json.specs.Number.{number_first, number_step, is_whole_number, is_number};
-ghost use Rattle.usp_json.specs.Grammar.{is_space, is_digit, is_mark, is_sign};
+ghost use Rattle.usp_json.specs.Grammar.{is_space, is_mark, is_sign};
 ghost use Rattle.usp_json.specs.Spells.{given, has_name};
 ghost use Rattle.usp_json.specs.Machine.{at, state_of, put, array_end, object_end, comma, comma_step, text_end, text_step, is_closing, value_step, number_from, letters_of, value_of_word, letters_step, step_at, opens, other_value, IsSound, IsPlain, Fits};
 
 use crate::frame::Frame;
 use crate::pieces::piece_step;
 use crate::states::{Expect, NumberPart, Piece, Role, Word};
-use crate::{Items, Json, Members, NumText, Text};
+use crate::{Items, Json, MAX_LEVELS, MAX_MEMBERS, Members, NumText, Text};
 use sqlite_items::Items as Row;
 use std::alloc::{AllocError, Global};
-
-// How many levels may stand inside the outermost object, and how many members in each object.
-const LEVELS: usize = 15;
-
-const MEMBERS: usize = 64;
+use usp_base::is_digit;
 
 fn is_space(b: u8) -> bool
     ensures { result ≡ is_space b }
 {
     b == b' ' || b == b'\t' || b == b'\n' || b == b'\r'
-}
-
-fn is_digit(b: u8) -> bool
-    ensures { result ≡ is_digit b }
-{
-    48 <= b && b <= 57
 }
 
 fn is_mark(b: u8) -> bool
@@ -44,7 +36,9 @@ fn is_sign(b: u8) -> bool
 
 // A point or a mark behind a whole number.
 fn after_digits(b: u8, point: bool) -> Option<NumberPart>
-    ensures { result ≡ (if point then (if b == 46 then Some NumberPart.Point else (if is_mark b then Some NumberPart.Mark else None)) else (if is_mark b then Some NumberPart.Mark else None)) }
+    ensures { result ≡ (if point
+        then (if b == decimal_point then Some NumberPart.Point else (if is_mark b then Some NumberPart.Mark else None))
+        else (if is_mark b then Some NumberPart.Mark else None)) }
 {
     if point && b == b'.' {
         return Some(NumberPart::Point);
@@ -152,7 +146,8 @@ fn put(frames: &mut Vec<Frame>, value: Json) -> Result<(), AllocError>
 }
 
 fn array_end(frames: &mut Vec<Frame>) -> Result<Option<Expect>, AllocError>
-    ensures { IfOk result (λ moved. MatchOption moved (array_end (reverse frames.old.items) ≡ None) (λ e. array_end (reverse frames.old.items) ≡ Some (at e (reverse frames.new.items)))) }
+    ensures { IfOk result (λ moved. MatchOption moved (array_end (reverse frames.old.items) ≡ None)
+        (λ e. array_end (reverse frames.old.items) ≡ Some (at e (reverse frames.new.items)))) }
 {
     let Some(frame) = frames.pop() else {
         return Ok(None);
@@ -164,9 +159,11 @@ fn array_end(frames: &mut Vec<Frame>) -> Result<Option<Expect>, AllocError>
     Ok(Some(Expect::CommaOrEnd))
 }
 
-#[tactic(auto, using(crate::proofs::FrameLaws::object_end_inner, crate::proofs::FrameLaws::frames_length, crate::proofs::FrameLaws::no_frames))]
+#[tactic(auto, using(crate::proofs::Frames::inner_end, crate::proofs::Frames::same_len, crate::proofs::Frames::empty))]
 fn object_end(frames: &mut Vec<Frame>) -> Result<Option<Expect>, AllocError>
-    ensures { IfOk result (λ moved. MatchOption moved (object_end (reverse frames.old.items) ≡ None) (λ e. object_end (reverse frames.old.items) ≡ Some (at e (reverse frames.new.items)))) }
+    ensures { IfOk result (λ moved.
+        MatchOption moved (object_end (reverse frames.old.items) ≡ None)
+        (λ e. object_end (reverse frames.old.items) ≡ Some (at e (reverse frames.new.items)))) }
 {
     let Some(frame) = frames.pop() else {
         return Ok(None);
@@ -183,7 +180,9 @@ fn object_end(frames: &mut Vec<Frame>) -> Result<Option<Expect>, AllocError>
 }
 
 fn comma(frames: &mut Vec<Frame>) -> Result<Option<Expect>, AllocError>
-    ensures { IfOk result (λ moved. MatchOption moved (comma given (reverse frames.old.items) ≡ None) (λ e. comma given (reverse frames.old.items) ≡ Some (at e (reverse frames.new.items)))) }
+    ensures { IfOk result (λ moved.
+        MatchOption moved (comma given (reverse frames.old.items) ≡ None)
+        (λ e. comma given (reverse frames.old.items) ≡ Some (at e (reverse frames.new.items)))) }
 {
     let Some(frame) = frames.pop() else {
         return Ok(None);
@@ -194,7 +193,7 @@ fn comma(frames: &mut Vec<Frame>) -> Result<Option<Expect>, AllocError>
             Ok(Some(Expect::Value))
         }
         Frame::Object { names, values } => {
-            if names.len() >= MEMBERS {
+            if names.len() >= MAX_MEMBERS {
                 return Ok(None);
             }
             frames.push(Frame::Object { names, values })?;
@@ -204,7 +203,10 @@ fn comma(frames: &mut Vec<Frame>) -> Result<Option<Expect>, AllocError>
 }
 
 fn comma_step(frames: &mut Vec<Frame>, b: u8) -> Result<Option<Expect>, AllocError>
-    ensures { IfOk result (λ moved. MatchOption moved (comma_step given (reverse frames.old.items) b ≡ None) (λ e. comma_step given (reverse frames.old.items) b ≡ Some (at e (reverse frames.new.items)))) }
+    ensures { IfOk result (λ moved.
+        MatchOption moved (comma_step given (reverse frames.old.items) b ≡ None)
+        (λ e. comma_step given (reverse frames.old.items) b
+        ≡ Some (at e (reverse frames.new.items)))) }
 {
     if is_space(b) {
         return Ok(Some(Expect::CommaOrEnd));
@@ -247,7 +249,10 @@ fn has_name(names: &[Text], name: &[u8]) -> bool
 
 // The closing quote of a text.
 fn text_end(role: Role, text: Text, frames: &mut Vec<Frame>) -> Result<Option<Expect>, AllocError>
-    ensures { IfOk result (λ moved. MatchOption moved (text_end given role text (reverse frames.old.items) ≡ None) (λ e. text_end given role text (reverse frames.old.items) ≡ Some (at e (reverse frames.new.items)))) }
+    ensures { IfOk result (λ moved.
+        MatchOption moved (text_end given role text (reverse frames.old.items) ≡ None)
+        (λ e. text_end given role text (reverse frames.old.items)
+        ≡ Some (at e (reverse frames.new.items)))) }
 {
     match role {
         Role::Value => {
@@ -288,7 +293,7 @@ fn taken(alloc: Global, got: &mut Vec<u8>) -> Vec<u8>
     std::mem::replace(got, Vec::new(alloc))
 }
 
-#[tactic(auto, using(crate::proofs::FrameLaws::closing_quote))]
+#[tactic(auto, using(crate::proofs::Frames::closing_quote))]
 fn text_step(
     alloc: Global,
     role: Role,
@@ -299,8 +304,10 @@ fn text_step(
 ) -> Result<Option<Expect>, AllocError>
     requires fits { Fits piece }
     requires utf8 { is_closing piece 34 ≡ true → IsUtf8 got.old.items }
-    ensures { IfOk result (λ moved. MatchOption moved (text_step given role piece got.old.items (reverse frames.old.items) b ≡ None)
-        (λ e. text_step given role piece got.old.items (reverse frames.old.items) b ≡ Some (state_of e got.new.items frames.new.items))) }
+    ensures { IfOk result (λ moved.
+        MatchOption moved (text_step given role piece got.old.items (reverse frames.old.items) b ≡ None)
+        (λ e. text_step given role piece got.old.items (reverse frames.old.items) b
+        ≡ Some (state_of e got.new.items frames.new.items))) }
 {
     if is_closing(piece, b) {
         let text = Text::from_bytes(taken(alloc, got));
@@ -320,8 +327,11 @@ fn number_byte(
     b: u8,
 ) -> Result<Option<Expect>, AllocError>
     requires { is_whole_number part ≡ true → is_number got.old.items ≡ true }
-    ensures { IfOk result (λ moved. MatchOption moved (number_from given part got.old.items (reverse frames.old.items) b (number_step part b) ≡ None)
-        (λ e. number_from given part got.old.items (reverse frames.old.items) b (number_step part b) ≡ Some (state_of e got.new.items frames.new.items))) }
+    ensures { IfOk result (λ moved.
+        MatchOption moved
+        (number_from given part got.old.items (reverse frames.old.items) b (number_step part b) ≡ None)
+        (λ e. number_from given part got.old.items (reverse frames.old.items) b (number_step part b)
+        ≡ Some (state_of e got.new.items frames.new.items))) }
 {
     if let Some(next) = number_step(part, b) {
         got.push(b)?;
@@ -355,7 +365,7 @@ fn value_of_word(word: Word) -> Json
     }
 }
 
-#[tactic(auto, using(crate::proofs::FrameLaws::no_letter))]
+#[tactic(auto, using(crate::proofs::Frames::no_letter))]
 fn letters_step(
     word: Word,
     place: usize,
@@ -363,7 +373,10 @@ fn letters_step(
     b: u8,
 ) -> Result<Option<Expect>, AllocError>
     requires { place < length (letters_of word) }
-    ensures { IfOk result (λ moved. MatchOption moved (letters_step word place (reverse frames.old.items) b ≡ None) (λ e. letters_step word place (reverse frames.old.items) b ≡ Some (at e (reverse frames.new.items)))) }
+    ensures { IfOk result (λ moved.
+        MatchOption moved (letters_step word place (reverse frames.old.items) b ≡ None)
+        (λ e. letters_step word place (reverse frames.old.items) b
+        ≡ Some (at e (reverse frames.new.items)))) }
 {
     let letters = letters(word);
     if letters[place] != b {
@@ -379,16 +392,18 @@ fn letters_step(
     Ok(Some(Expect::CommaOrEnd))
 }
 
-#[tactic(auto, using(crate::proofs::FrameLaws::frames_length))]
+#[tactic(auto, using(crate::proofs::Frames::same_len))]
 fn open_frame(
     frames: &mut Vec<Frame>,
     frame: Frame,
     next: Expect,
 ) -> Result<Option<Expect>, AllocError>
-    ensures { IfOk result (λ moved. MatchOption moved (opens given (reverse frames.old.items) ≡ false)
-        (λ e. (opens given (reverse frames.old.items) ≡ true) × (e ≡ next) × (reverse frames.new.items ≡ frame ∷ reverse frames.old.items))) }
+    ensures { IfOk result (λ moved.
+        MatchOption moved (opens given (reverse frames.old.items) ≡ false)
+        (λ e. (opens given (reverse frames.old.items) ≡ true) × (e ≡ next)
+        × (reverse frames.new.items ≡ frame ∷ reverse frames.old.items))) }
 {
-    if frames.len() > LEVELS {
+    if frames.len() > MAX_LEVELS - 1 {
         return Ok(None);
     }
     frames.push(frame)?;
@@ -397,7 +412,10 @@ fn open_frame(
 
 // A byte where a value may come, and no number.
 fn other_value(alloc: Global, frames: &mut Vec<Frame>, b: u8) -> Result<Option<Expect>, AllocError>
-    ensures { IfOk result (λ moved. MatchOption moved (other_value given (reverse frames.old.items) b ≡ None) (λ e. other_value given (reverse frames.old.items) b ≡ Some (at e (reverse frames.new.items)))) }
+    ensures { IfOk result (λ moved.
+        MatchOption moved (other_value given (reverse frames.old.items) b ≡ None)
+        (λ e. other_value given (reverse frames.old.items) b
+        ≡ Some (at e (reverse frames.new.items)))) }
 {
     if b == b'"' {
         return Ok(Some(Expect::Text {
@@ -446,8 +464,10 @@ fn value_step(
     b: u8,
 ) -> Result<Option<Expect>, AllocError>
     requires { got.old.items ≡ [] }
-    ensures { IfOk result (λ moved. MatchOption moved (value_step given (reverse frames.old.items) b ≡ None)
-        (λ e. value_step given (reverse frames.old.items) b ≡ Some (state_of e got.new.items frames.new.items))) }
+    ensures { IfOk result (λ moved.
+        MatchOption moved (value_step given (reverse frames.old.items) b ≡ None)
+        (λ e. value_step given (reverse frames.old.items) b
+        ≡ Some (state_of e got.new.items frames.new.items))) }
 {
     if let Some(part) = number_first(b) {
         got.push(b)?;
@@ -470,8 +490,10 @@ fn plain_step(
     b: u8,
 ) -> Result<Option<Expect>, AllocError>
     requires { got.old.items ≡ [] }
-    ensures { IfOk result (λ moved. IsPlain expect → MatchOption moved (step_at given expect [] (reverse frames.old.items) b ≡ None)
-        (λ e. step_at given expect [] (reverse frames.old.items) b ≡ Some (state_of e got.new.items frames.new.items))) }
+    ensures { IfOk result (λ moved. IsPlain expect →
+        MatchOption moved (step_at given expect [] (reverse frames.old.items) b ≡ None)
+        (λ e. step_at given expect [] (reverse frames.old.items) b
+        ≡ Some (state_of e got.new.items frames.new.items))) }
 {
     if is_space(b) {
         return Ok(Some(expect));
@@ -505,8 +527,10 @@ pub(crate) fn advance(
     b: u8,
 ) -> Result<Option<Expect>, AllocError>
     requires { IsSound expect got.old.items }
-    ensures { IfOk result (λ moved. MatchOption moved (step_at given expect got.old.items (reverse frames.old.items) b ≡ None)
-        (λ e. step_at given expect got.old.items (reverse frames.old.items) b ≡ Some (state_of e got.new.items frames.new.items))) }
+    ensures { IfOk result (λ moved.
+        MatchOption moved (step_at given expect got.old.items (reverse frames.old.items) b ≡ None)
+        (λ e. step_at given expect got.old.items (reverse frames.old.items) b
+        ≡ Some (state_of e got.new.items frames.new.items))) }
 {
     match expect {
         Expect::Text { role, piece } => text_step(alloc, role, piece, got, frames, b),

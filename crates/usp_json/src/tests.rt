@@ -1,5 +1,8 @@
+//! Readings, refusals and spellings from outside.
+
 use crate::{
-    Items, Json, JsonFault, Members, NumText, Text, read_members, write_json, write_members,
+    Items, Json, JsonFault, MAX_LEVELS, MAX_MEMBERS, Members, NoMemory, NumText, Text,
+    read_members, write_json, write_members,
 };
 use std::alloc::{AllocError, Global};
 use std::test::Fail;
@@ -259,5 +262,89 @@ fn finds_and_copies_each_member(rt: HostRuntime) -> Result<(), Fail> {
         assert!(rt; spells(number.number(), b"18") && number.text().is_none());
         assert!(rt; spells(text.text(), b"x") && text.number().is_none());
     }
+    Ok(())
+}
+
+// The example of the crate's first page.
+fn example(alloc: Global) -> Result<bool, JsonFault> {
+    let members = read_members(alloc, b"{ \"exp\" : 1500, \"iss\" : \"\\u0061\" }")?;
+    let text = write_members(alloc, &members)?;
+    Ok(
+        members.find(b"iss").is_some()
+            && text.as_slice() == b"{\"exp\":1500,\"iss\":\"a\"}".as_slice(),
+    )
+}
+
+#[test]
+fn shows_the_example(rt: HostRuntime) -> Result<(), Fail> {
+    assert!(rt; example(rt.alloc()) == Ok(true));
+    Ok(())
+}
+
+#[test]
+fn knows_texts_and_their_lists(rt: HostRuntime) -> Result<(), Fail> {
+    let alloc = rt.alloc();
+    let spelled =
+        b"{\"t\":\"x\",\"n\":1,\"l\":[\"x\",\"y\"],\"m\":[\"x\",1],\"e\":[],\"o\":{\"x\":\"x\"}}";
+    let Ok(members) = read_members(alloc, spelled) else {
+        assert!(rt; false);
+        return Ok(());
+    };
+    let table: [(&[u8], [bool; 4]); 6] = [
+        (b"t", [true, true, false, false]),
+        (b"n", [false, false, false, false]),
+        (b"l", [false, false, true, true]),
+        (b"m", [false, false, false, true]),
+        (b"e", [false, false, true, false]),
+        (b"o", [false, false, false, false]),
+    ];
+    for row in table.iter() {
+        match members.find(row.0) {
+            None => assert!(rt; false),
+            Some(value) => assert!(rt;
+                [
+                    value.is_text(),
+                    value.is_this(b"x"),
+                    value.is_texts(),
+                    value.lists(b"x")
+                ] == row.1
+            ),
+        }
+    }
+    Ok(())
+}
+
+#[test]
+fn says_what_to_mend(rt: HostRuntime) -> Result<(), Fail> {
+    let alloc = rt.alloc();
+    let table: [(JsonFault, &str, bool); 5] = [
+        (
+            JsonFault::Syntax { at: 7 },
+            "no JSON object: it goes wrong, or ends, at byte 7, counted from 0",
+            false,
+        ),
+        (
+            JsonFault::Duplicate { at: 31 },
+            "a name stands twice in its object: take out the one that ends at byte 31",
+            false,
+        ),
+        (
+            JsonFault::Deep { at: 20 },
+            "more than 16 levels: nest less at byte 20",
+            false,
+        ),
+        (
+            JsonFault::Many { at: 512 },
+            "more than 64 members: end the object at byte 512",
+            false,
+        ),
+        (JsonFault::NoMemory, "out of memory", true),
+    ];
+    for row in table.iter() {
+        assert!(rt; row.0.to_string(alloc)?.as_str() == row.1);
+        assert!(rt; row.0.is_memory() == row.2);
+    }
+    assert!(rt; NoMemory.to_string(alloc)?.as_str() == "out of memory");
+    assert!(rt; MAX_LEVELS == 16 && MAX_MEMBERS == 64);
     Ok(())
 }

@@ -1,4 +1,5 @@
-// Texts, which contracts see as their UTF-8 bytes.
+//! Texts, which contracts see as their UTF-8 bytes.
+
 ghost use Rattle.std.specs.Prelude.{◌≡◌, IfOk};
 ghost use Rattle.std.specs.Str.{IsUtf8};
 

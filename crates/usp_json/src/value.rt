@@ -1,15 +1,18 @@
-// Values of JSON, their lists and their members.
+//! Values of JSON, their lists and their members.
+
 ghost use Rattle.std.specs.Prelude.{◌≡◌, ◌<◌, [], ◌∷◌, ◌++◌, length, slice_get, Some, IfSome, OnOk, OnErr};
+ghost use Rattle.std.specs.List.{list_all, list_any};
 ghost use Rattle.std.specs.Option.{option_copied};
 ghost use Rattle.std.specs.Str.{IsUtf8};
 ghost use Rattle.usp_json.specs.Grammar.{IsNumber};
 ghost use Rattle.usp_json.specs.Scalars.{number_in, text_in};
+ghost use Rattle.usp_json.specs.Values.{is_text, is_texts, is_this, lists};
 
 use crate::{NoMemory, NumText, Text};
 use sqlite_items::Items as Row;
 use std::alloc::Global;
 
-/// A value of JSON (RFC 8259, section 3).
+/// A value of JSON (RFC 8259 section 3).
 #[cycle(json)]
 #[derive(Drop)]
 pub enum Json {
@@ -58,6 +61,43 @@ impl Json {
             _ => None,
         }
     }
+
+    /// Whether this value is a text.
+    pub fn is_text(&self) -> bool
+        ensures { result ≡ is_text self.now }
+    {
+        self.text().is_some()
+    }
+
+    /// Whether this value is the text of these bytes.
+    pub fn is_this(&self, text: &[u8]) -> bool
+        ensures { result ≡ is_this text.now self.now }
+    {
+        match self.text() {
+            None => false,
+            Some(other) => other == text,
+        }
+    }
+
+    /// Whether this value is a list of texts alone.
+    pub fn is_texts(&self) -> bool
+        ensures { result ≡ is_texts self.now }
+    {
+        match self {
+            Json::List(items) => items.are_texts(),
+            _ => false,
+        }
+    }
+
+    /// Whether this value is a list that has the text of these bytes.
+    pub fn lists(&self, text: &[u8]) -> bool
+        ensures { result ≡ lists text.now self.now }
+    {
+        match self {
+            Json::List(items) => items.has_text(text),
+            _ => false,
+        }
+    }
 }
 
 impl Items {
@@ -70,6 +110,7 @@ impl Items {
         }
     }
 
+    /// How many values there are.
     pub fn len(&self) -> usize
         ensures { result ≡ length self.now.values }
     {
@@ -91,5 +132,29 @@ impl Items {
     {
         self.values.push(value)?;
         Ok(())
+    }
+
+    /// Whether each value is a text.
+    pub fn are_texts(&self) -> bool
+        ensures { result ≡ list_all is_text self.now.values }
+    {
+        for place in 0..self.len() {
+            if !self.at(place).is_text() {
+                return false;
+            }
+        }
+        true
+    }
+
+    /// Whether some value is the text of these bytes.
+    pub fn has_text(&self, text: &[u8]) -> bool
+        ensures { result ≡ list_any (is_this text.now) self.now.values }
+    {
+        for place in 0..self.len() {
+            if self.at(place).is_this(text) {
+                return true;
+            }
+        }
+        false
     }
 }

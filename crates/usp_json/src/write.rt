@@ -1,4 +1,5 @@
-// The canonical spelling.
+//! The canonical spelling.
+
 ghost use Rattle.std.specs.Prelude.{◌≡◌, ◌<◌, ◌++◌, map, OnOk, IfOk};
 ghost use Rattle.std.specs.List.{zip};
 ghost use Rattle.usp_json.specs.Canon.{canon, canon_items, canon_members, canon_text, commas, escape_of, hex_digit, member_of};
@@ -119,7 +120,8 @@ fn write_member(out: &mut Vec<u8>, name: &Text, value: &Json) -> Result<(), Allo
 #[cycle(write)]
 #[tactic(auto, using(crate::proofs::Pairs::zip_nil))]
 fn write_pairs(out: &mut Vec<u8>, names: &[Text], values: &[Json]) -> Result<(), AllocError>
-    ensures { OnOk result (out.new.items ≡ out.old.items ++ commas (map member_of (zip names.now (map canon values.now)))) }
+    ensures { OnOk result (out.new.items ≡ out.old.items
+        ++ commas (map member_of (zip names.now (map canon values.now)))) }
 {
     let [name, more_names @ ..] = names else {
         return Ok(());
@@ -148,11 +150,12 @@ pub fn write_json(alloc: Global, value: &Json) -> Result<Vec<u8>, NoMemory>
 }
 
 /// The canonical text of an object: no white space outside texts, numbers as they were spelled, and in texts only what
-/// must be escaped (RFC 8259, section 7).
+/// must be escaped (RFC 8259 section 7).
 #[tactic(auto, using(crate::proofs::CanonLaws::reads_back))]
 pub fn write_members(alloc: Global, members: &Members) -> Result<Vec<u8>, NoMemory>
     ensures canonical { IfOk result (λ text. text.items ≡ canon_members members.now) }
-    ensures reads_back { IfOk result (λ text. KeepsLimits members.now → IsReading text.items members.now) }
+    ensures reads_back { IfOk result (λ text. KeepsLimits members.now
+        → IsReading text.items members.now) }
 {
     let mut out = Vec::new(alloc);
     write_object(&mut out, members)?;

@@ -1,5 +1,5 @@
 use Rattle.std.proofs.Common.{◌∙◌, sym}
-use Rattle.usp_json.proofs.FrameLaws.{name_here, name_passed}
+use Rattle.usp_json.proofs.Frames.{name_here, name_passed}
 use Rattle.usp_json.proofs.steps.has_name.Goals as goal
 
 pub returns-then-is_name : goal.returns-then-is_name

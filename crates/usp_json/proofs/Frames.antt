@@ -14,16 +14,16 @@ use Rattle.std.specs.Str.{bytes_eq}
 use Rattle.usp_json.specs.Spells.{has_name}
 use Rattle.usp_json.specs.Machine.{after_value, object_end, is_closing}
 
-pub frames_length : (frames : List Frame) → length (reverse frames) ≡ length frames
-frames_length frames = length-reverse frames
+pub same_len : (frames : List Frame) → length (reverse frames) ≡ length frames
+same_len frames = length-reverse frames
 
-pub no_frames : (frames : List Frame) → length frames ≡ 0 → reverse frames ≡ []
-no_frames [] h = refl
-no_frames (f ∷ fs) h = absurd (omega arith)
+pub empty : (frames : List Frame) → length frames ≡ 0 → reverse frames ≡ []
+empty [] h = refl
+empty (f ∷ fs) h = absurd (omega arith)
 
-pub object_end_inner : (names : List (List ℕ)) (values : List Json) (frames : List Frame) → 0 < length frames → object_end (OpenObject names values ∷ frames) ≡ Some (after_value (object_of names values) frames)
-object_end_inner names values [] h = absurd (omega arith)
-object_end_inner names values (f ∷ fs) h = refl
+pub inner_end : (names : List (List ℕ)) (values : List Json) (frames : List Frame) → 0 < length frames → object_end (OpenObject names values ∷ frames) ≡ Some (after_value (object_of names values) frames)
+inner_end names values [] h = absurd (omega arith)
+inner_end names values (f ∷ fs) h = refl
 
 -- only a quote closes a text
 pub closing_quote : (piece : Piece) (b : ℕ) → is_closing piece b ≡ true → is_closing piece 34 ≡ true
