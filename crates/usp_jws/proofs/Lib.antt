@@ -1,3 +1,5 @@
+pub mod Ascii
+pub mod Agreeing
 pub mod Blocks
 pub mod Decoded
 pub mod Dots

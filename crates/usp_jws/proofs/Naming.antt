@@ -1,11 +1,11 @@
 -- Of keys whose names are apart, the first that agrees with a token is the one that sealed it.
-use Rattle.std.proofs.Common.{◌≡◌, ℕ, zero, suc, ◌<◌, Bool, true, false, cond, ◌||◌, List, [], ◌∷◌, ◌++◌, length, Option, Some, None, refl, sym, ap, ◌∙◌, arith, lt-ltb}
+use Rattle.std.proofs.Common.{◌≡◌, ℕ, zero, suc, ◌<◌, Bool, true, false, cond, ◌||◌, List, [], ◌∷◌, ◌++◌, length, Option, Some, None, refl, sym, ap, ◌∙◌, arith, ltb, lt-ltb}
 use Rattle.std.specs.Prelude.{slice_get}
 use Rattle.std.specs.List.{position, position_or_len}
 use Rattle.std.specs.Str.{bytes_eq}
-use Rattle.std.proofs.lemmas.List.Folds.{list_any-append}
+use Rattle.std.proofs.lemmas.List.Folds.{list_any-append, find_at}
 use Rattle.std.proofs.lemmas.Slice.Eq.{bytes_eq-Decides}
-use Rattle.usp_jws.specs.Keys.{KeyValue, agrees, has_kid, repeat_behind, first_repeat}
+use Rattle.usp_jws.specs.Keys.{KeyValue, agrees, has_kid, key_named, place_named, repeat_behind, first_repeat}
 use Rattle.usp_jws.specs.Parts.{PartsValue, signed_of, text_of}
 use Rattle.usp_jws.specs.Sealed.{sealed}
 use Rattle.usp_jws.proofs.Tokens.{sealed_agrees, same_bytes}
@@ -68,3 +68,14 @@ pub sealed_place : (keys : List KeyValue) (i : ℕ) (key : KeyValue) (payload : 
 sealed_place keys i key payload parts apart here is =
     let p = named_place [] keys i key (signed_of parts) parts.signature apart here (sealed_agrees key payload parts is).1 in
     rw (p.first, lt-ltb i (length keys) p.inside) refl
+
+place_of : (b : Bool) (found place : ℕ) → cond b (Some found) None ≡ Some place → place ≡ found
+place_of true found place e = cc
+place_of false found place e = cc
+
+-- The key of a name stands at the place of that name.
+pub named_at : (keys : List KeyValue) (kid : List ℕ) (place : ℕ) → place_named keys kid ≡ Some place → slice_get keys place ≡ key_named keys kid
+named_at keys kid place e =
+    let test : KeyValue → Bool = λ key. bytes_eq key.kid kid in
+    let at = position_or_len test keys in
+    ap (slice_get keys) (place_of (ltb at (length keys)) at place e) ∙ sym (find_at test keys)

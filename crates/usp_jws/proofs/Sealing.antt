@@ -23,6 +23,7 @@ use Rattle.usp_jws.specs.Keys.{KeyValue}
 use Rattle.usp_jws.specs.Letters.{is_kid_letter, is_kid}
 use Rattle.usp_jws.specs.Parts.{PartsValue, text_of}
 use Rattle.usp_jws.specs.Sealed.{header_text, signed_text, sealed, sealed_len}
+use Rattle.usp_jws.specs.declared.limits.TheConstants.{MAX_TOKEN}
 use Rattle.usp_jws.proofs.Tokens.{dots_compact, parts_of_compact, length-compact}
 
 -- ---- a text of a name's letters, in its quotes
@@ -138,7 +139,7 @@ sha256_bytes : (m : List ℕ) → IsBytes (sha256 m)
 unfolding sha256
 sha256_bytes m = digest_are_bytes (final_hash initial_hash_256 m) 8
 
-hmac_bytes : (key text : List ℕ) → IsBytes (hmac key text)
+pub hmac_bytes : (key text : List ℕ) → IsBytes (hmac key text)
 unfolding hmac
 hmac_bytes key text = sha256_bytes _
 
@@ -183,7 +184,7 @@ unfolding sealed
 sealed_has_parts key payload = (record { header = b64u (header_text key.kid); payload = b64u payload; signature = b64u (hmac key.secret (signed_text key.kid payload)) }, refl)
 
 -- It is a token where it is short enough.
-pub sealed_token : (key : KeyValue) (payload : List ℕ) → is_kid key.kid ≡ true → IsBytes payload → length (sealed key payload) ≤ 8192 → IsToken (sealed key payload)
+pub sealed_token : (key : KeyValue) (payload : List ℕ) → is_kid key.kid ≡ true → IsBytes payload → length (sealed key payload) ≤ MAX_TOKEN → IsToken (sealed key payload)
 unfolding sealed
 sealed_token key payload named bytes short = (
   short,

@@ -6,13 +6,14 @@ use Rattle.base64.specs.GeneralPurpose.{IsBytes}
 use Rattle.base64.specs.Rfc4648.{encode_symbols}
 use Rattle.base64.specs.Engines.{url_safe_no_pad}
 use Rattle.base64.proofs.RoundTrip.{length-encode_symbols}
-use Rattle.usp_jws.specs.Base64url.{b64u}
-use Rattle.usp_jws.specs.Compact.{compact, dots, IsToken, IsFirstBad, Refuses}
+use Rattle.usp_jws.specs.Base64url.{b64u, IsB64u}
+use Rattle.usp_jws.specs.Compact.{compact, dots, IsCut, IsToken, IsFirstBad, Refuses}
 use Rattle.usp_jws.specs.Dotted.{dotted}
 use Rattle.usp_jws.specs.Hmac.{hmac}
 use Rattle.usp_jws.specs.Keys.{KeyValue, agrees}
 use Rattle.usp_jws.specs.Parts.{PartsValue, signed_of, text_of}
 use Rattle.usp_jws.specs.Sealed.{header_text, signed_text, sealed, sealed_len}
+use Rattle.usp_jws.specs.declared.limits.TheConstants.{MAX_PAYLOAD}
 use Rattle.usp_jws.specs.declared.parts.TokenFault.{TokenFault}
 use Rattle.usp_jws.specs.declared.parts.TokenFault.TheVariants.{TooLong, NotThree, NotB64}
 use Rattle.usp_jws.proofs.Dots.{dots_cut}
@@ -48,6 +49,22 @@ no_token (NotB64 part) text refused token =
     let t = token.1 in
     some_bad part refused.1 refused.2 refused.3 t.header t.payload t.signature t.bytes.0 t.bytes.1 t.bytes.2
     (parts_of_compact refused.1 refused.2 refused.3 t.header t.payload t.signature text refused.4 refused.5 t.spelled) refused.6
+
+-- The parts of a token are base64url.
+cut_token : (text h p s : List ℕ) → IsCut text h p s → IsToken text → IsB64u h × IsB64u p × IsB64u s
+cut_token text h p s cut token =
+    let t = token.1 in
+    let is = parts_of_compact h p s t.header t.payload t.signature text cut.whole cut.two t.spelled in
+    ((t.header, t.bytes.0, is.0), (t.payload, t.bytes.1, is.1), (t.signature, t.bytes.2, is.2))
+
+pub bad_header : (text h p s : List ℕ) → IsCut text h p s → (IsB64u h → ⊥) → IsToken text → ⊥
+bad_header text h p s cut bad token = bad (cut_token text h p s cut token).0
+
+pub bad_payload : (text h p s : List ℕ) → IsCut text h p s → (IsB64u p → ⊥) → IsToken text → ⊥
+bad_payload text h p s cut bad token = bad (cut_token text h p s cut token).1
+
+pub bad_signature : (text h p s : List ℕ) → IsCut text h p s → (IsB64u s → ⊥) → IsToken text → ⊥
+bad_signature text h p s cut bad token = bad (cut_token text h p s cut token).2
 
 first_once : (a b : ℕ) (h p s : List ℕ) → IsFirstBad a h p s → IsFirstBad b h p s → a ≡ b
 first_once a b h p s (inl x) (inl y) = x.0 ∙ sym y.0
@@ -88,9 +105,9 @@ pub length-b64u : (bytes : List ℕ) → length (b64u bytes) ≡ (4 * length byt
 unfolding b64u
 length-b64u bytes = rw (append-nil (encode_symbols url_safe_no_pad.encode_table bytes)) (length-encode_symbols url_safe_no_pad.encode_table bytes)
 
--- What is sealed over at most 6,000 bytes is a token.
+-- What is sealed over at most `MAX_PAYLOAD` bytes is a token.
 pub is_token : (header payload digest text : List ℕ) → IsBytes header → IsBytes payload → IsBytes digest → length header ≤ 88
-    → length payload ≤ 6000 → length digest ≡ 32 → text ≡ compact header payload digest → IsToken text
+    → length payload ≤ MAX_PAYLOAD → length digest ≡ 32 → text ≡ compact header payload digest → IsToken text
 is_token header payload digest text bh bp bd lh lp ld is = (
   omega (
     arith,

@@ -24,7 +24,9 @@ has_parameter name members = is_some (parameter name members)
 
 -- `alg` is the text `HS256`
 abbrev pub is_hs256 : Members → Bool
-is_hs256 members = option_map_or (λ text. bytes_eq text (codes "HS256")) (option_and_then text_in (parameter (codes "alg") members)) false
+is_hs256 members =
+    option_map_or (λ text. bytes_eq text (codes "HS256"))
+    (option_and_then text_in (parameter (codes "alg") members)) false
 
 -- the name of the key, where it is a text
 abbrev pub kid_of : Members → Option (List ℕ)
@@ -35,7 +37,8 @@ abbrev pub has_bad_kid : Members → Bool
 has_bad_kid members = has_parameter (codes "kid") members && is_none (kid_of members)
 
 -- Why these parameters are no header of such a token, the first that applies. `crit` names extensions that must be
--- understood (section 4.1.11), and none is; `zip` and `enc` belong to encryption (RFC 7516 section 4.1). Other parameters are ignored.
+-- understood (section 4.1.11), and none is; `zip` and `enc` belong to encryption (RFC 7516 section 4.1). Other
+-- parameters are ignored.
 abbrev pub header_fault : Members → Option HeaderFault
 header_fault members =
     if has_parameter (codes "alg") members then
@@ -56,14 +59,17 @@ pub record SpellsHeader (text : List ℕ) (members : Members) : Type 0 where
 
 -- the text is a header with that name of a key
 abbrev pub IsHeader : List ℕ → Option (List ℕ) → Type 0
-IsHeader text kid = (members : Members) × SpellsHeader text members × (header_fault members ≡ None) × (kid ≡ kid_of members)
+IsHeader text kid =
+    (members : Members) × SpellsHeader text members × (header_fault members ≡ None) × (kid ≡ kid_of members)
 
 -- the text is the base64url of bytes that are no JSON object, for that reason
 abbrev pub HasNoObject : JsonFault → List ℕ → Type 0
-HasNoObject fault text = (fault ≢ NoJsonMemory) × (bytes : List ℕ) × IsBytes bytes × (text ≡ b64u bytes) × Refuses bytes fault
+HasNoObject fault text =
+    (fault ≢ NoJsonMemory) × (bytes : List ℕ) × IsBytes bytes × (text ≡ b64u bytes) × Refuses bytes fault
 
 abbrev pub HasHeaderFault : HeaderFault → List ℕ → Type 0
-HasHeaderFault fault text = (members : Members) × SpellsHeader text members × (header_fault members ≡ Some fault)
+HasHeaderFault fault text =
+    (members : Members) × SpellsHeader text members × (header_fault members ≡ Some fault)
 
 -- what a fault says of a header; want of memory is free
 abbrev pub RefusesHeader : HeaderFault → List ℕ → Type 0

@@ -1,15 +1,15 @@
-// The header of a token.
-ghost use Rattle.std.specs.Prelude.{◌≡◌, IfOk, IfErr};
+//! The header of a token (RFC 7515 section 4.1).
+ghost use Rattle.std.specs.Prelude.{◌≡◌, ◌↔◌, IsTrue, IfOk, IfErr};
 ghost use Rattle.std.specs.Option.{option_and_then, option_copied};
-ghost use Rattle.base64.specs.GeneralPurpose.{IsBytes};
 ghost use Rattle.usp_jws.specs.Base64url.{IsB64u, b64u};
 ghost use Rattle.usp_jws.specs.Headers.{IsHeader, RefusesHeader, SpellsHeader, has_bad_kid, has_parameter, header_fault, is_hs256, json_fault, kid_of, parameter};
+ghost use Rattle.usp_jws.specs.declared.header.HeaderFault.TheVariants.{NoMemory as IsMemory};
 ghost use Rattle.usp_json.specs.Scalars.{text_in};
 
-use crate::{NoMemory, Parts};
-use base64::DecodeAllocError;
-use base64::engine::general_purpose::URL_SAFE_NO_PAD;
+use crate::{NoMemory, Parts, decode_base64url};
 use std::alloc::Global;
+use std::error::Error;
+use std::fmt;
 use usp_json::{Json, JsonFault, Members, Text, read_members};
 
 /// What a header says, beside the algorithm (RFC 7515 section 4.1).
@@ -38,6 +38,40 @@ pub enum HeaderFault {
     BadKid,
     /// There was no memory.
     NoMemory,
+}
+
+impl HeaderFault {
+    /// Whether it is want of memory.
+    pub fn is_memory(self) -> bool
+        ensures { IsTrue result ↔ self ≡ IsMemory }
+    {
+        matches!(self, HeaderFault::NoMemory)
+    }
+}
+
+impl fmt::Display for HeaderFault {
+    fn fmt<W: fmt::Write>(&self, f: &mut fmt::Formatter<W>) -> fmt::Result {
+        match self {
+            HeaderFault::Json(fault) => write!(f, "the header must be a JSON object: {fault}"),
+            HeaderFault::NoAlg => write!(f, "the header must have an `alg`"),
+            HeaderFault::OtherAlg => write!(f, "the header's `alg` must be HS256"),
+            HeaderFault::Crit => write!(f, "the header must have no `crit`"),
+            HeaderFault::Zip => write!(f, "the header must have no `zip`"),
+            HeaderFault::Enc => write!(f, "the header must have no `enc`"),
+            HeaderFault::BadKid => write!(f, "the header's `kid` must be a text"),
+            HeaderFault::NoMemory => write!(f, "there was no memory"),
+        }
+    }
+}
+
+impl Error for HeaderFault {}
+
+impl From<NoMemory> for HeaderFault {
+    ghost from_gives = { λ _ e. e ≡ IsMemory };
+
+    fn from(_: NoMemory) -> Self {
+        HeaderFault::NoMemory
+    }
 }
 
 fn has_parameter(members: &Members, name: &[u8]) -> bool
@@ -109,54 +143,51 @@ fn kid_of(alloc: Global, members: &Members) -> Result<Option<Text>, NoMemory>
     let Some(Json::Str(text)) = members.find(b"kid") else {
         return Ok(None);
     };
-    match Text::of(alloc, text.text()) {
-        Ok(kid) => Ok(Some(kid)),
-        Err(_) => Err(NoMemory),
-    }
+    Ok(Some(Text::of(alloc, text.text())?))
 }
 
 // The bytes of a part.
-#[tactic(auto, using(crate::proofs::Decoded::decodable), unfolding(crate::specs::Base64url::b64u))]
-fn decoded(alloc: Global, part: &[u8]) -> Result<Vec<u8>, NoMemory>
+fn bytes_of(alloc: Global, part: &[u8]) -> Result<Vec<u8>, NoMemory>
     requires { IsB64u part.now }
-    ensures bytes { IfOk result (λ bytes. IsBytes bytes.items) }
-    ensures encoded { IfOk result (λ bytes. part.now ≡ b64u bytes.items) }
+    ensures { IfOk result (λ bytes. part.now ≡ b64u bytes.items) }
 {
-    match URL_SAFE_NO_PAD.decode(alloc, part) {
-        Ok(bytes) => Ok(bytes),
-        Err(DecodeAllocError::OutOfMemory) => Err(NoMemory),
-        Err(DecodeAllocError::DecodeError(_)) => unreachable!(),
+    match decode_base64url(alloc, part)? {
+        Some(bytes) => Ok(bytes),
+        None => unreachable!(),
     }
 }
 
-// The members of a header.
+// The members that the bytes of a header spell.
 #[tactic(auto, using(crate::proofs::Parameters::spelled, crate::proofs::Parameters::no_object))]
-fn members_of(alloc: Global, part: &[u8]) -> Result<Members, HeaderFault>
-    requires { IsB64u part.now }
-    ensures read { IfOk result (λ members. SpellsHeader part.now members) }
-    ensures refused { IfErr result (λ fault. RefusesHeader fault part.now) }
+fn members_of(alloc: Global, bytes: &[u8]) -> Result<Members, HeaderFault>
+    ensures read { IfOk result (λ members. SpellsHeader (b64u bytes.now) members) }
+    ensures refused { IfErr result (λ fault. RefusesHeader fault (b64u bytes.now)) }
 {
-    let Ok(bytes) = decoded(alloc, part) else {
-        return Err(HeaderFault::NoMemory);
-    };
-    match read_members(alloc, &bytes) {
+    match read_members(alloc, bytes) {
         Ok(members) => Ok(members),
         Err(fault) => Err(json_fault(fault)),
     }
 }
 
-/// Reads the header of a token (RFC 7515 section 4.1). Parameters that it does not know are ignored.
+/// Reads a header from its bytes, which are no longer in base64url.
 #[tactic(auto, using(crate::proofs::Parameters::refuses))]
+pub(crate) fn header_of(alloc: Global, bytes: &[u8]) -> Result<Header, HeaderFault>
+    ensures read { IfOk result (λ header. IsHeader (b64u bytes.now) header.kid) }
+    ensures refused { IfErr result (λ fault. RefusesHeader fault (b64u bytes.now)) }
+{
+    let members = members_of(alloc, bytes)?;
+    if let Some(fault) = header_fault(&members) {
+        return Err(fault);
+    }
+    let kid = kid_of(alloc, &members)?;
+    Ok(Header { kid })
+}
+
+/// Reads the header of a token (RFC 7515 section 4.1). Parameters that it does not know are ignored.
 pub fn read_header(alloc: Global, parts: &Parts<'_>) -> Result<Header, HeaderFault>
     ensures read { IfOk result (λ header. IsHeader parts.now.header header.kid) }
     ensures refused { IfErr result (λ fault. RefusesHeader fault parts.now.header) }
 {
-    let members = members_of(alloc, parts.header())?;
-    if let Some(fault) = header_fault(&members) {
-        return Err(fault);
-    }
-    match kid_of(alloc, &members) {
-        Ok(kid) => Ok(Header { kid }),
-        Err(_) => Err(HeaderFault::NoMemory),
-    }
+    let bytes = bytes_of(alloc, parts.header())?;
+    header_of(alloc, &bytes)
 }

@@ -1,4 +1,4 @@
-// HMAC-SHA-256.
+//! HMAC-SHA-256 (RFC 2104).
 ghost use Rattle.std.specs.Prelude.{◌≡◌, ◌++◌, List, ℕ};
 ghost use Rattle.sha2.specs.Sha256.{sha256};
 ghost use Rattle.sha2.specs.Hashers.{Holds256};

@@ -1,22 +1,43 @@
-// A token's three parts.
+//! A token's three parts (RFC 7515 section 7.1).
 ghost use Rattle.std.specs.Prelude.{◌≡◌, ◌∷◌, ◌++◌, ◌≤◌, length, IfOk, IfErr, MatchOption, position, ◌==◌};
 ghost use Rattle.usp_jws.specs.Base64url.{IsB64u};
-ghost use Rattle.usp_jws.specs.Compact.{Refuses, IsToken, dots};
+ghost use Rattle.usp_jws.specs.Compact.{Refuses, IsCut, IsToken, dots};
+ghost use Rattle.usp_jws.specs.Dotted.{dot};
 ghost use Rattle.usp_jws.specs.Parts.{signed_of, text_of};
 
-use crate::is_base64url;
+use crate::{MAX_TOKEN, is_base64url};
+use std::error::Error;
+use std::fmt;
 use std::marker::Model;
 
 /// Why a text is no token. The first that applies is named.
 #[derive(Clone, Copy, Debug, PartialEq, Eq)]
 pub enum TokenFault {
-    /// The text has more than 8,192 bytes.
+    /// The text has more than [`MAX_TOKEN`] bytes.
     TooLong,
     /// The text has not exactly two dots.
     NotThree,
     /// The part, from 1 to 3 and the first such one, is not base64url without padding.
     NotB64 { part: u8 },
 }
+
+impl fmt::Display for TokenFault {
+    fn fmt<W: fmt::Write>(&self, f: &mut fmt::Formatter<W>) -> fmt::Result {
+        match self {
+            TokenFault::TooLong => write!(f, "the token must have at most {MAX_TOKEN} bytes"),
+            TokenFault::NotThree => write!(
+                f,
+                "the token must have three parts, with a dot between them"
+            ),
+            TokenFault::NotB64 { part } => write!(
+                f,
+                "part {part} of the token must be base64url without padding"
+            ),
+        }
+    }
+}
+
+impl Error for TokenFault {}
 
 /// The parts of a token. Each is base64url, and may be empty. Only `split` makes them.
 #[derive(Drop)]
@@ -77,33 +98,36 @@ impl<'a> Parts<'a> {
     }
 }
 
-const DOT: u8 = b'.';
-
-const LONGEST: usize = 8192;
+// The three parts of a text, of which nothing is known but that they have the text's only two dots between them.
+#[derive(Drop)]
+pub(crate) struct Pieces<'a> {
+    pub(crate) header: &'a [u8],
+    pub(crate) payload: &'a [u8],
+    pub(crate) signature: &'a [u8],
+}
 
 // Where the first dot is.
 fn first_dot(text: &[u8]) -> Option<usize>
-    ensures { result ≡ position (λ b. b == 46) text.now }
+    ensures { result ≡ position (λ b. b == dot) text.now }
 {
-    text.iter().position(|b| *b == DOT)
+    text.iter().position(|b| *b == b'.')
 }
 
 // What stands before the first dot and behind it, where there is one.
 fn cut_at_dot(text: &[u8]) -> Option<(&[u8], &[u8])>
     ensures { MatchOption result (dots text.now ≡ 0)
-        (λ cut. (text.now ≡ cut.0.now ++ 46 ∷ cut.1.now) × (dots cut.0.now ≡ 0)) }
+        (λ cut. (text.now ≡ cut.0.now ++ dot ∷ cut.1.now) × (dots cut.0.now ≡ 0)) }
 {
     let at = first_dot(text)?;
     Some((&text[..at], &text[at + 1..]))
 }
 
-/// The three parts of a token in the compact form (RFC 7515 section 7.1). It takes no memory. That
-/// a text is accepted exactly where it is a token is the law [`refused_are_no_tokens`](crate::refused_are_no_tokens).
-pub fn split(text: &[u8]) -> Result<Parts<'_>, TokenFault>
-    ensures ok { IfOk result (λ parts. IsToken text.now × (text.now ≡ text_of parts)) }
+// The three parts of a text that has two dots and is short enough.
+pub(crate) fn pieces_of(text: &[u8]) -> Result<Pieces<'_>, TokenFault>
+    ensures ok { IfOk result (λ p. IsCut text.now p.header.now p.payload.now p.signature.now) }
     ensures refused { IfErr result (λ e. Refuses e text.now) }
 {
-    if text.len() > LONGEST {
+    if text.len() > MAX_TOKEN {
         return Err(TokenFault::TooLong);
     }
     let Some((header, rest)) = cut_at_dot(text) else {
@@ -115,21 +139,48 @@ pub fn split(text: &[u8]) -> Result<Parts<'_>, TokenFault>
     if cut_at_dot(signature).is_some() {
         return Err(TokenFault::NotThree);
     }
-    if !is_base64url(header) {
-        return Err(TokenFault::NotB64 { part: 1 });
-    }
-    if !is_base64url(payload) {
-        return Err(TokenFault::NotB64 { part: 2 });
-    }
-    if !is_base64url(signature) {
-        return Err(TokenFault::NotB64 { part: 3 });
-    }
-    let signed = &text[..header.len() + 1 + payload.len()];
-    Ok(Parts {
-        text,
+    Ok(Pieces {
         header,
         payload,
         signature,
-        signed,
     })
+}
+
+// The parts of a text that are base64url.
+pub(crate) fn parts_of<'a>(text: &'a [u8], pieces: &Pieces<'a>) -> Parts<'a>
+    requires cut { IsCut text.now pieces.now.header.now pieces.now.payload.now pieces.now.signature.now }
+    requires header { IsB64u pieces.now.header.now }
+    requires payload { IsB64u pieces.now.payload.now }
+    requires signature { IsB64u pieces.now.signature.now }
+    ensures text { text.now ≡ text_of result }
+    ensures header { result.header ≡ pieces.now.header.now }
+    ensures payload { result.payload ≡ pieces.now.payload.now }
+{
+    let signed = &text[..pieces.header.len() + 1 + pieces.payload.len()];
+    Parts {
+        text,
+        header: pieces.header,
+        payload: pieces.payload,
+        signature: pieces.signature,
+        signed,
+    }
+}
+
+/// The three parts of a token in the compact form (RFC 7515 section 7.1). It takes no memory. That
+/// a text is accepted exactly where it is a token is the law [`refused_are_no_tokens`](crate::refused_are_no_tokens).
+pub fn split(text: &[u8]) -> Result<Parts<'_>, TokenFault>
+    ensures ok { IfOk result (λ parts. IsToken text.now × (text.now ≡ text_of parts)) }
+    ensures refused { IfErr result (λ e. Refuses e text.now) }
+{
+    let pieces = pieces_of(text)?;
+    if !is_base64url(pieces.header) {
+        return Err(TokenFault::NotB64 { part: 1 });
+    }
+    if !is_base64url(pieces.payload) {
+        return Err(TokenFault::NotB64 { part: 2 });
+    }
+    if !is_base64url(pieces.signature) {
+        return Err(TokenFault::NotB64 { part: 3 });
+    }
+    Ok(parts_of(text, &pieces))
 }

@@ -1,14 +1,16 @@
-// The keys that a token may be sealed with.
+//! The keys that a token may be sealed with.
 ghost use Rattle.std.specs.Prelude.{◌≡◌, ◌≤◌, length, None, IfOk, IfErr, position};
 ghost use Rattle.std.specs.Option.{option_copied};
 ghost use Rattle.usp_jws.specs.Base64url.{b64u};
 ghost use Rattle.usp_jws.specs.Hmac.{hmac};
-ghost use Rattle.usp_jws.specs.Keys.{names, agrees, has_kid, first_repeat};
+ghost use Rattle.usp_jws.specs.Keys.{names, agrees, has_kid, first_repeat, key_named, place_named};
 ghost use Rattle.usp_jws.specs.Parts.{signed_of};
 ghost use Rattle.usp_jws.specs.Rings.{RefusesRing};
+ghost use Rattle.usp_jws.specs.declared.limits.TheConstants.{DIGEST_LETTERS, MAX_KEYS};
 
-use crate::{Header, Key, Parts};
-use base64::engine::general_purpose::URL_SAFE_NO_PAD;
+use crate::{DIGEST_LETTERS, Header, Key, MAX_KEYS, Parts, encode_digest};
+use std::error::Error;
+use std::fmt;
 use std::marker::Model;
 
 /// Why keys make no ring. The first that applies is named.
@@ -16,13 +18,28 @@ use std::marker::Model;
 pub enum RingFault {
     /// There is no key.
     NoKeys,
-    /// There are more than 64 keys.
+    /// There are more than [`MAX_KEYS`] keys.
     ManyKeys,
     /// The key at this place, the first such one, has the name of an earlier key.
     Repeat { place: usize },
 }
 
-/// 1 to 64 keys, no two of one name.
+impl fmt::Display for RingFault {
+    fn fmt<W: fmt::Write>(&self, f: &mut fmt::Formatter<W>) -> fmt::Result {
+        match self {
+            RingFault::NoKeys => write!(f, "there must be a key"),
+            RingFault::ManyKeys => write!(f, "there must be at most {MAX_KEYS} keys"),
+            RingFault::Repeat { place } => write!(
+                f,
+                "the key at place {place} must have a name of its own"
+            ),
+        }
+    }
+}
+
+impl Error for RingFault {}
+
+/// 1 to [`MAX_KEYS`] keys, no two of one name.
 #[derive(Drop)]
 pub struct Ring {
     keys: Vec<Key>,
@@ -32,12 +49,14 @@ impl Model for Ring {
     ghost use Rattle.std.specs.Prelude.{◌≤◌, List, length};
     ghost use Rattle.std.specs.Prelude.{◌≡◌, None};
     ghost use Rattle.usp_jws.specs.Keys.{KeyValue, first_repeat};
+    ghost use Rattle.usp_jws.specs.declared.limits.TheConstants.{MAX_KEYS};
 
     ghost Value = { List KeyValue };
 
     ghost view = { λ r. r.keys.items };
 
-    ghost invariant = { λ r. (1 ≤ length r.keys.items) × (length r.keys.items ≤ 64) × (first_repeat r.keys.items ≡ None) };
+    ghost invariant = { λ r. (1 ≤ length r.keys.items) × (length r.keys.items ≤ MAX_KEYS)
+        × (first_repeat r.keys.items ≡ None) };
 }
 
 // Whether one of the keys has that name.
@@ -59,17 +78,11 @@ fn first_repeat(keys: &[Key]) -> Option<usize>
     None
 }
 
-const MAC_TEXT: usize = 43;
-
 // The MAC of a text in base64url.
-#[tactic(auto, unfolding(crate::specs::Base64url::b64u))]
-fn mac_text(key: &Key, signed: &[u8]) -> [u8; MAC_TEXT]
+fn mac_text(key: &Key, signed: &[u8]) -> [u8; DIGEST_LETTERS]
     ensures { result ≡ b64u (hmac key.now.secret signed.now) }
 {
-    let digest = key.mac(signed);
-    let mut text = [0u8; MAC_TEXT];
-    let _ = URL_SAFE_NO_PAD.encode_slice(&digest, &mut text);
-    text
+    encode_digest(&key.mac(signed))
 }
 
 // Whether the header names no other key.
@@ -96,7 +109,8 @@ fn first_agreeing(
     signed: &[u8],
     signature: &[u8],
 ) -> Option<usize>
-    ensures { result ≡ position (agrees (option_copied kid.entry) signed.now signature.now) keys.now }
+    ensures { result ≡
+        position (agrees (option_copied kid.entry) signed.now signature.now) keys.now }
 {
     keys.iter()
         .position(|key| agrees(kid, signed, signature, key))
@@ -104,7 +118,8 @@ fn first_agreeing(
 
 // The first place of a key of that name, or of any key where there is no name, that agrees.
 pub(crate) fn verifier_named(ring: &Ring, kid: Option<&[u8]>, parts: &Parts<'_>) -> Option<usize>
-    ensures { result ≡ position (agrees (option_copied kid.entry) (signed_of parts.now) parts.now.signature) ring.now }
+    ensures { result ≡
+        position (agrees (option_copied kid.entry) (signed_of parts.now) parts.now.signature) ring.now }
 {
     first_agreeing(&ring.keys, kid, parts.signed(), parts.signature())
 }
@@ -137,7 +152,7 @@ impl Ring {
         if keys.is_empty() {
             return Err(RingFault::NoKeys);
         }
-        if keys.len() > 64 {
+        if keys.len() > MAX_KEYS {
             return Err(RingFault::ManyKeys);
         }
         match first_repeat(&keys) {
@@ -149,9 +164,23 @@ impl Ring {
     /// The keys in their order.
     pub fn keys(&self) -> &[Key]
         ensures keys { result.now ≡ self.now }
-        ensures count { (1 ≤ length self.now) × (length self.now ≤ 64) }
+        ensures count { (1 ≤ length self.now) × (length self.now ≤ MAX_KEYS) }
         ensures apart { first_repeat self.now ≡ None }
     {
         &self.keys
+    }
+
+    /// The key of that name. None exactly where there is none.
+    pub fn named(&self, kid: &[u8]) -> Option<&Key>
+        ensures { option_copied result ≡ key_named self.now kid.now }
+    {
+        self.keys.iter().find(|key| key.kid() == kid)
+    }
+
+    /// The place of the key of that name. None exactly where there is none.
+    pub fn place_named(&self, kid: &[u8]) -> Option<usize>
+        ensures { result ≡ place_named self.now kid.now }
+    {
+        self.keys.iter().position(|key| key.kid() == kid)
     }
 }

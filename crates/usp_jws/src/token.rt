@@ -1,13 +1,15 @@
-// A token's text.
+//! A token's text, and sealing.
 ghost use Rattle.std.specs.Prelude.{◌≡◌, ◌≤◌, ◌<◌, ◌+◌, ◌∷◌, ◌++◌, length, true, IfOk, OnOk, string_bytes};
 ghost use Rattle.std.specs.List.{list_all};
 ghost use Rattle.base64.specs.GeneralPurpose.{IsBytes};
 ghost use Rattle.usp_jws.specs.Base64url.{b64u};
 ghost use Rattle.usp_jws.specs.Compact.{IsToken, compact};
+ghost use Rattle.usp_jws.specs.Dotted.{dot};
 ghost use Rattle.usp_jws.specs.Hmac.{hmac, IsDigest};
 ghost use Rattle.usp_jws.specs.Letters.{is_token_letter};
 ghost use Rattle.usp_jws.specs.Parts.{text_of};
 ghost use Rattle.usp_jws.specs.Sealed.{header_text, sealed, sealed_len};
+ghost use Rattle.usp_jws.specs.declared.limits.TheConstants.{MAX_PAYLOAD};
 
 use crate::{Key, NoMemory, Parts};
 use base64::engine::general_purpose::URL_SAFE_NO_PAD;
@@ -54,6 +56,52 @@ impl Token {
     }
 }
 
+/// A token that stands in a text of somebody else's, which nothing was copied from.
+#[derive(Drop)]
+pub struct TokenRef<'a> {
+    text: &'a [u8],
+}
+
+impl<'a> Model for TokenRef<'a> {
+    ghost use Rattle.std.specs.Prelude.{List, ℕ};
+    ghost use Rattle.usp_jws.specs.Compact.{IsToken};
+
+    ghost Value = { List ℕ };
+
+    ghost view = { λ t. t.text.now };
+
+    ghost invariant = { λ t. IsToken t.text.now };
+}
+
+impl<'a> TokenRef<'a> {
+    /// The token that was split.
+    pub fn of(parts: &Parts<'a>) -> TokenRef<'a>
+        ensures { result ≡ text_of parts.now }
+    {
+        TokenRef { text: parts.text() }
+    }
+
+    /// The token's text.
+    #[tactic(auto, using(crate::proofs::TokenLetters::token_some, crate::proofs::TokenLetters::token_letters))]
+    pub fn text(&self) -> &'a [u8]
+        ensures text { result.now ≡ self.now }
+        ensures token { IsToken self.now }
+        ensures some { 0 < length self.now }
+        ensures letters { list_all is_token_letter self.now ≡ true }
+    {
+        self.text
+    }
+
+    /// A copy that keeps its own text.
+    pub fn to_token(&self, alloc: Global) -> Result<Token, NoMemory>
+        ensures { IfOk result (λ token. token ≡ self.now) }
+    {
+        Ok(Token {
+            text: self.text.to_vec(alloc)?,
+        })
+    }
+}
+
 // The header's text for a key's name.
 fn header_of(alloc: Global, kid: &[u8]) -> Result<Vec<u8>, NoMemory>
     ensures text { IfOk result (λ text. text.items ≡ header_text kid.now) }
@@ -77,7 +125,7 @@ fn push_base64url(text: &mut String, bytes: &[u8]) -> Result<(), NoMemory>
 
 // The first two parts with their dot.
 fn signed_of(alloc: Global, header: &[u8], payload: &[u8]) -> Result<String, NoMemory>
-    ensures { IfOk result (λ text. string_bytes text ≡ b64u header.now ++ 46 ∷ b64u payload.now) }
+    ensures { IfOk result (λ text. string_bytes text ≡ b64u header.now ++ dot ∷ b64u payload.now) }
 {
     let mut text = String::new(alloc);
     push_base64url(&mut text, header)?;
@@ -89,9 +137,9 @@ fn signed_of(alloc: Global, header: &[u8], payload: &[u8]) -> Result<String, NoM
 // The compact form of a header, a payload and the key's MAC of the two.
 fn compact_of(alloc: Global, header: &[u8], payload: &[u8], key: &Key) -> Result<Vec<u8>, NoMemory>
     ensures text { IfOk result (λ text. text.items ≡ compact header.now payload.now
-        (hmac key.now.secret (b64u header.now ++ 46 ∷ b64u payload.now))) }
+        (hmac key.now.secret (b64u header.now ++ dot ∷ b64u payload.now))) }
     ensures header { IsBytes header.now }
-    ensures digest { OnOk result (IsDigest (hmac key.now.secret (b64u header.now ++ 46 ∷ b64u payload.now))) }
+    ensures digest { OnOk result (IsDigest (hmac key.now.secret (b64u header.now ++ dot ∷ b64u payload.now))) }
 {
     let mut text = signed_of(alloc, header, payload)?;
     let digest = key.mac(text.as_bytes());
@@ -105,7 +153,7 @@ fn compact_of(alloc: Global, header: &[u8], payload: &[u8], key: &Key) -> Result
 /// (the law [`sealed_verifies`](crate::sealed_verifies)).
 #[tactic(auto, unfolding(crate::specs::Sealed::sealed))]
 pub fn seal(alloc: Global, key: &Key, payload: &[u8]) -> Result<Token, NoMemory>
-    requires { length payload.now ≤ 6000 }
+    requires { length payload.now ≤ MAX_PAYLOAD }
     ensures text { IfOk result (λ token. token ≡ sealed key.now payload.now) }
     ensures length { IfOk result (λ token. length token ≡ sealed_len (length key.now.kid) (length payload.now)) }
 {
