@@ -6,8 +6,9 @@ use Rattle.std.proofs.lemmas.Bool.{lt-ltb}
 use Rattle.std.proofs.lemmas.Bool.Decides.{nat_tests}
 use Rattle.std.proofs.lemmas.List.{append-nil, length-append, length-drop, drop_at, drop-append-le}
 use Rattle.std.proofs.lemmas.List.Folds.{list_all-append}
+use Rattle.usp_uri.specs.declared.fault.TheConstants.{MAX_LEN}
 use Rattle.usp_uri.specs.Letters.{is_colon, is_hash, ends_authority, ends_path, is_unreserved, is_sub_delim, is_one_of, is_literal}
-use Rattle.usp_uri.specs.Cuts.{with_mark}
+use Rattle.usp_uri.specs.Delimited.{with_mark}
 use Rattle.usp_uri.specs.Components.{Components, components_of, text_of, authority_of, target_of, query_in}
 use Rattle.usp_uri.specs.Faults.{normal_of, begins_with_digits}
 use Rattle.usp_uri.specs.Grammar.{IsUri, is_query}
@@ -242,13 +243,13 @@ package_literal name token n t =
     ∙ all_pass (list_all is_literal name) (list_all is_literal (61 ∷ token)) (unreserved_literal is_name_byte name_unreserved name n) (unreserved_literal is_run_byte run_unreserved token t)
 
 by_query : (query : Option (List ℕ)) (name uri token : List ℕ) → query_in uri ≡ query → normal_of uri ≡ Ok uri → list_all is_literal (package_text name token) ≡ true
-    → length (embedded name uri query token) ≤ 8192 → normal_of (embedded name uri query token) ≡ Ok (embedded name uri query token)
+    → length (embedded name uri query token) ≤ MAX_LEN → normal_of (embedded name uri query token) ≡ Ok (embedded name uri query token)
 by_query None name uri token is normal literal short = begun_normal uri (package_text name token) normal is literal short
 by_query (Some query) name uri token is normal literal short = grown_normal uri query (38 ∷ package_text name token) normal is literal short
 
 -- What `embed` makes is read as itself where it is short enough.
 pub embedded_normal : (name uri token : List ℕ) → is_attr_name name ≡ true → normal_of uri ≡ Ok uri → list_all is_run_byte token ≡ true
-    → (text : List ℕ) → text ≡ embedded name uri (query_in uri) token → length text ≤ 8192 → normal_of text ≡ Ok text
+    → (text : List ℕ) → text ≡ embedded name uri (query_in uri) token → length text ≤ MAX_LEN → normal_of text ≡ Ok text
 embedded_normal name uri token attr normal run text is short =
     subst (λ (t : List ℕ). normal_of t ≡ Ok t) (sym is)
     (by_query (query_in uri) name uri token refl normal (package_literal name token (name_bytes name attr) run) (omega (arith, ap length is)))

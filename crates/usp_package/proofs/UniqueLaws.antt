@@ -5,7 +5,7 @@ use Rattle.std.specs.List.{list_all}
 use Rattle.std.proofs.lemmas.Bool.{cases_lt}
 use Rattle.std.proofs.lemmas.List.{append_cancel_left}
 use Rattle.usp_uri.specs.Letters.{is_sub_delim, is_gen_delim, is_reserved}
-use Rattle.usp_uri.specs.Cuts.{until, from_first}
+use Rattle.usp_uri.specs.Delimited.{until, from_first}
 use Rattle.usp_package.specs.Package.{is_place, IsFirstPlace, is_run_byte, ends_run, IsPastRun, CutsAt, IsSplit, Finds, Package, nothing, bad, carried, package_of}
 use Rattle.usp_package.proofs.FindLaws.{package_of_finds}
 

@@ -5,10 +5,13 @@ ghost use Rattle.std.specs.List.{list_all};
 ghost use Rattle.std.specs.Option.{option_copied};
 ghost use Rattle.usp_uri.specs.Components.{query_in};
 ghost use Rattle.usp_uri.specs.Faults.{normal_of};
+ghost use Rattle.usp_uri.specs.declared.fault.TheConstants.{MAX_LEN};
 ghost use Rattle.usp_package.specs.Package.{embedded, is_run_byte, package_of, nothing, carried};
 
 use crate::name::AttrName;
 use std::alloc::{AllocError, Global};
+use std::error::Error;
+use std::fmt;
 use usp_uri::Uri;
 
 /// Memory ran out.
@@ -20,6 +23,14 @@ impl From<AllocError> for NoMemory {
         NoMemory
     }
 }
+
+impl fmt::Display for NoMemory {
+    fn fmt<W: fmt::Write>(&self, f: &mut fmt::Formatter<W>) -> fmt::Result {
+        write!(f, "memory ran out")
+    }
+}
+
+impl Error for NoMemory {}
 
 /// The one followed by the other: of what `find` gives, the content text.
 pub fn joined(alloc: Global, before: &[u8], after: &[u8]) -> Result<Vec<u8>, NoMemory>
@@ -62,7 +73,7 @@ pub fn embed(alloc: Global, name: &AttrName, uri: &Uri, token: &[u8]) -> Result<
     // Found again it is this token, with the whole URI before it and nothing after.
     ensures back { IfOk result (λ text. package_of name.now text.items ≡ carried token.now uri.now []) }
     // A URI in normal form again, where it is short enough to be read.
-    ensures normal { IfOk result (λ text. length text.items ≤ 8192 → normal_of text.items ≡ Ok text.items) }
+    ensures normal { IfOk result (λ text. length text.items ≤ MAX_LEN → normal_of text.items ≡ Ok text.items) }
 {
     let text = with_package(alloc, name.text(), uri.text(), uri.query(), token)?;
     Ok(text)

@@ -3,24 +3,26 @@
 ghost use Rattle.std.specs.Prelude.{◌≡◌, ◌≤◌, IsSome, IfSome, ◌↔◌, true};
 ghost use Rattle.usp_package.specs.Name.{is_name_byte, is_attr_name};
 
+use crate::limits::MAX_NAME;
 use std::marker::Model;
 
-/// The name of an attribute: 1 to 64 letters, digits, `-` and `_`. Contracts see its bytes.
+/// The name of an attribute: 1 to `MAX_NAME` letters, digits, `-` and `_`. Contracts see its bytes.
 #[derive(Drop)]
 pub struct AttrName {
-    bytes: [u8; 64],
+    bytes: [u8; MAX_NAME],
     len: usize,
 }
 
 impl Model for AttrName {
     ghost use Rattle.std.specs.Prelude.{◌≡◌, ◌≤◌, List, ℕ, take, true};
     ghost use Rattle.usp_package.specs.Name.{is_attr_name};
+    ghost use Rattle.usp_package.specs.declared.limits.TheConstants.{MAX_NAME};
 
     ghost Value = { List ℕ };
 
     ghost view = { λ a. take a.len a.bytes };
 
-    ghost invariant = { λ a. (a.len ≤ 64) × (is_attr_name (take a.len a.bytes) ≡ true) };
+    ghost invariant = { λ a. (a.len ≤ MAX_NAME) × (is_attr_name (take a.len a.bytes) ≡ true) };
 }
 
 /// A letter, a digit, `-` or `_`.
@@ -34,7 +36,7 @@ fn is_name_byte(c: u8) -> bool
 fn is_attr_name(text: &[u8]) -> bool
     ensures { result ≡ is_attr_name text.now }
 {
-    if text.is_empty() || text.len() > 64 {
+    if text.is_empty() || text.len() > MAX_NAME {
         return false;
     }
     let mut rest = text;
@@ -56,7 +58,7 @@ impl AttrName {
         if !is_attr_name(text) {
             return None;
         }
-        let mut bytes = [0; 64];
+        let mut bytes = [0; MAX_NAME];
         bytes[..text.len()].copy_from_slice(text);
         Some(AttrName {
             bytes,

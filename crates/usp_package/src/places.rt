@@ -1,7 +1,7 @@
 //! Where a package may stand in a text.
 
 ghost use Rattle.std.specs.Prelude.{◌≡◌, ◌≤◌, ◌<◌, ◌+◌, length, None, Some, IfNone, IsTrue, IfSome, position};
-ghost use Rattle.usp_uri.specs.Cuts.{until, from_first};
+ghost use Rattle.usp_uri.specs.Delimited.{until, from_first};
 ghost use Rattle.usp_package.specs.Package.{first_from, authority_start, zones_of, separates, is_place_at, is_named, ends_run};
 ghost use Rattle.usp_package.specs.Bounds.{zones};
 

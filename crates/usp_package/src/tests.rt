@@ -162,3 +162,21 @@ fn puts_a_package_in_and_a_content_together(rt: HostRuntime) -> Result<(), Fail>
     assert_eq!(rt; content.as_slice(), b"http://h/a/b".as_slice());
     Ok(())
 }
+
+#[test]
+fn runs_the_example(rt: HostRuntime) -> Result<(), Fail> {
+    let name = AttrName::new(b"token").ok_or("a name")?;
+    match find(&name, b"http://h/v?token=e.y.J&t=1") {
+        Found::At {
+            token,
+            before,
+            after,
+        } => {
+            assert!(rt; token == b"e.y.J".as_slice());
+            let content = joined(rt.alloc(), before, after).ok().ok_or("a text")?;
+            assert!(rt; content.as_slice() == b"http://h/v?t=1".as_slice());
+        }
+        _ => return Err("a package".into()),
+    }
+    Ok(())
+}

@@ -8,7 +8,7 @@ use Rattle.std.proofs.lemmas.Bool.Decides.{nat_tests}
 use Rattle.usp_uri.specs.declared.fault.UriFault.{UriFault}
 use Rattle.usp_uri.specs.declared.fault.UriFault.TheVariants as fault
 use Rattle.usp_uri.specs.Letters.{is_colon, is_slash, is_hash, ends_authority, ends_path, is_host_byte, is_unreserved, is_sub_delim, is_one_of, is_literal}
-use Rattle.usp_uri.specs.Cuts.{until, from_first, after_mark, with_mark, first_outside}
+use Rattle.usp_uri.specs.Delimited.{until, from_first, after_mark, with_mark, first_outside}
 use Rattle.usp_uri.specs.Components.{Components, components_of, text_of, scheme_in, after_scheme, authority_start, authority_in, after_authority, host_in, port_in, path_in, query_in}
 use Rattle.usp_uri.specs.Faults.{is_port, begins_with_digits, is_allowed, fault_for, begins_in_any_case, scheme_fault, length_fault, userinfo_fault, host_fault, port_fault, rest_fault, host_fault_at, port_fault_in, rest_fault_at, text_fault, normal_of}
 use Rattle.usp_uri.specs.Grammar.{Spells, is_scheme, is_host, is_path, is_query, are_pchars_or}

@@ -8,7 +8,7 @@ use Rattle.std.proofs.lemmas.Bool.Decides.{nat_tests}
 use Rattle.std.proofs.lemmas.List.{append-nil}
 use Rattle.std.proofs.lemmas.List.Folds.{list_all-append}
 use Rattle.usp_uri.specs.Letters.{is_colon, is_slash, is_hash, ends_authority, ends_path, is_host_byte, is_unreserved, is_sub_delim, is_one_of}
-use Rattle.usp_uri.specs.Cuts.{until, from_first, after_mark, with_mark}
+use Rattle.usp_uri.specs.Delimited.{until, from_first, after_mark, with_mark}
 use Rattle.usp_uri.specs.Components.{Components, text_of, authority_of, target_of, components_of, scheme_in, after_scheme, authority_in, after_authority, host_in, port_in, path_in, query_in}
 use Rattle.usp_uri.specs.Faults.{is_port, begins_with_digits}
 use Rattle.usp_uri.specs.Grammar.{IsUri, is_host, is_path, is_query, are_pchars_or}

@@ -5,7 +5,7 @@ use Rattle.std.specs.List.{position_or_len}
 use Rattle.std.proofs.lemmas.List.Sums.{prefix_len-le-length}
 use Rattle.std.proofs.lemmas.List.{take_at, drop_at, length-append}
 use Rattle.std.proofs.lemmas.Bool.{cases_lt, lt-ltb, le-ltb}
-use Rattle.usp_uri.specs.Cuts.{until, from_first}
+use Rattle.usp_uri.specs.Delimited.{until, from_first}
 
 take_step : (b : Bool) (c : ℕ) (rest u : List ℕ) (n : ℕ) → u ≡ take n rest → cond b [] (c ∷ u) ≡ take (cond (not b) (1 + n) 0) (c ∷ rest)
 take_step true c rest u n e = refl

@@ -2,7 +2,7 @@
 use Rattle.std.proofs.Common.{◌≡◌, ℕ, ◌-◌, ◌≤◌, take, drop, Bool, true, false, cond, List, [], ◌∷◌, length, refl, sym, ap, ◌∙◌, arith}
 use Rattle.std.proofs.lemmas.List.{take_rest}
 use Rattle.usp_uri.specs.Letters.{is_slash}
-use Rattle.usp_uri.specs.Cuts.{until, from_first}
+use Rattle.usp_uri.specs.Delimited.{until, from_first}
 use Rattle.usp_uri.specs.Normal.{pieces, onto_first, segments_of, resolved, next_kept, at_the_end}
 
 pieces_step : (b : Bool) (c : ℕ) (rest u f : List ℕ) → pieces rest ≡ u ∷ segments_of f
@@ -20,7 +20,7 @@ pub goes_on : (kept : List (List ℕ)) (segment next : List ℕ) → 1 ≤ lengt
 goes_on kept segment [] h = absurd (omega arith)
 goes_on kept segment (slash ∷ more) h = rw (pieces-cut more) refl
 
-cut_path : (rest segment next : List ℕ) → 1 ≤ length rest → segment ≡ until is_slash (take (length rest - 1) (drop 1 rest)) → next ≡ from_first is_slash (take (length rest - 1) (drop 1 rest)) → segments_of rest ≡ segment ∷ segments_of next
+pub cut_path : (rest segment next : List ℕ) → 1 ≤ length rest → segment ≡ until is_slash (take (length rest - 1) (drop 1 rest)) → next ≡ from_first is_slash (take (length rest - 1) (drop 1 rest)) → segments_of rest ≡ segment ∷ segments_of next
 cut_path [] segment next some s n = absurd (omega arith)
 cut_path (slash ∷ after) segment next some s n =
     let whole : take (length (slash ∷ after) - 1) after ≡ after = take_rest (slash ∷ after) 1 in

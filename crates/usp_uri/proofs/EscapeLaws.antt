@@ -5,7 +5,7 @@ use Rattle.std.specs.List.{list_all}
 use Rattle.std.specs.Char.{is_ascii_hexdigit, to_ascii_uppercase, digit_value}
 use Rattle.std.proofs.lemmas.Bool.Decides.{nat_tests}
 use Rattle.usp_uri.specs.Letters.{is_slash, is_unreserved, is_sub_delim, is_one_of, escaped_byte}
-use Rattle.usp_uri.specs.Cuts.{until, from_first}
+use Rattle.usp_uri.specs.Delimited.{until, from_first}
 use Rattle.usp_uri.specs.Faults.{begins_with_digits}
 use Rattle.usp_uri.specs.Grammar.{are_pchars_or}
 use Rattle.usp_uri.specs.Normal.{normal_escape, normal_escapes, pieces, onto_first, segments_of, path_from}

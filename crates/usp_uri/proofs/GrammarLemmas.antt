@@ -1,7 +1,7 @@
 -- A text that the grammar spells is cut into the components that spell it.
 use Rattle.std.proofs.Common.{◌≡◌, ℕ, Bool, true, false, not, ◌&&◌, List, [], ◌∷◌, ◌++◌, refl, ap}
 use Rattle.std.specs.List.{list_all}
-use Rattle.usp_uri.specs.Cuts.{until, from_first}
+use Rattle.usp_uri.specs.Delimited.{until, from_first}
 
 -- no byte of the class stands in the text
 abbrev pub is_free_of : (ℕ → Bool) → List ℕ → Bool

@@ -9,6 +9,7 @@ pub mod NormalLemmas
 pub mod GrammarLemmas
 pub mod DotLaws
 pub mod StandardLaws
+pub mod OneResult
 pub mod ComponentLaws
 pub mod SpelledLaws
 pub mod AcceptedLaws
@@ -16,3 +17,4 @@ pub mod EscapeLaws
 pub mod NormalLaws
 pub mod PlaceLaws
 pub mod QueryLaws
+pub mod LengthLaws

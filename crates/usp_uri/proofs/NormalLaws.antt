@@ -7,6 +7,7 @@ use Rattle.std.specs.Char.{to_ascii_lowercase}
 use Rattle.std.proofs.lemmas.Bool.Decides.{nat_tests}
 use Rattle.std.proofs.lemmas.List.{reverse-append}
 use Rattle.std.proofs.lemmas.List.Folds.{list_all-append}
+use Rattle.usp_uri.specs.declared.fault.TheConstants.{MAX_LEN}
 use Rattle.usp_uri.specs.Letters.{is_slash, is_host_byte}
 use Rattle.usp_uri.specs.Components.{Components, components_of, text_of}
 use Rattle.usp_uri.specs.Faults.{is_port, normal_of, length_fault}
@@ -177,7 +178,7 @@ pub record IsNormal (p : Components) : Type 0 where
   pub uri : IsUri p
   pub stays : normal_components p ≡ p
 
-pub within_limit : (text : List ℕ) → length_fault text ≡ None → length text ≤ 8192
+pub within_limit : (text : List ℕ) → length_fault text ≡ None → length text ≤ MAX_LEN
 within_limit text e = grind (arith, nat_tests)
 
 -- a text that is its own normal form
@@ -190,7 +191,7 @@ normal_has text e =
       stays = sym (components_of-spelled (normal_components (components_of text)) text (normal_is_uri (components_of text) u) (sym a.2));
     }
 
-pub normal_reads : (p : Components) → IsNormal p → length (text_of p) ≤ 8192 → normal_of (text_of p) ≡ Ok (text_of p)
+pub normal_reads : (p : Components) → IsNormal p → length (text_of p) ≤ MAX_LEN → normal_of (text_of p) ≡ Ok (text_of p)
 normal_reads p n short =
     let same = ap (λ q. text_of q) n.stays in
     spelled_normal p (text_of p) n.uri refl short (omega (arith, ap length same)) ∙ ap Ok same

@@ -1,11 +1,13 @@
 -- The normal form, from the parts of a reading.
 use Rattle.std.proofs.Common.{◌≡◌, ℕ, ◌+◌, ◌<◌, ◌≤◌, Bool, true, false, cond, ◌||◌, List, [], ◌∷◌, length, Ok, Err, Result, Some, None, Option, sym, refl, ap, subst, ◌∙◌, arith}
-use Rattle.std.specs.Prelude.{codes, IsErrAnd, IfErr}
+use Rattle.std.specs.Prelude.{codes, nat_lt, IsErrAnd, IfErr}
 use Rattle.std.proofs.lemmas.Bool.{le-ltb, lt-ltb}
+use Rattle.std.proofs.lemmas.Bool.Decides.{nat_tests}
+use Rattle.usp_uri.specs.declared.fault.TheConstants.{MAX_LEN}
 use Rattle.usp_uri.specs.declared.fault.UriFault.{UriFault}
 use Rattle.usp_uri.specs.declared.fault.UriFault.TheVariants as fault
 use Rattle.usp_uri.specs.Letters.{is_colon}
-use Rattle.usp_uri.specs.Cuts.{until}
+use Rattle.usp_uri.specs.Delimited.{until}
 use Rattle.usp_uri.specs.Faults.{normal_of, unless, first_fault, fault_of, text_fault, length_fault, normal_text, scheme_fault, begins_in_any_case}
 use Rattle.usp_uri.specs.Answers.{Refuses, Gives}
 use Rattle.usp_uri.proofs.SchemeLemmas.{http_scheme, https_scheme, http_room, https_room}
@@ -31,20 +33,32 @@ pub handed_on_refused : {A : Type 0} → (result : Result A UriFault) (found : U
 handed_on_refused (Ok value) found defined e refused = tt
 handed_on_refused (Err other) found defined e refused = subst (λ x. Refuses x defined) (sym e) refused
 
-faulty : (text : List ℕ) (found : UriFault) → text_fault text ≡ Some found → normal_of text ≡ Err found
+pub faulty : (text : List ℕ) (found : UriFault) → text_fault text ≡ Some found → normal_of text ≡ Err found
 unfolding normal_of
 faulty text found e = rw e refl
+
+pub handed_on_fault : {A : Type 0} → (result : Result A UriFault) (found : UriFault) (defined : Result (List ℕ) UriFault) → IsErrAnd result (λ e. e ≡ found) → defined ≡ Err found
+    → IfErr result (λ e. defined ≡ Err e)
+handed_on_fault (Ok value) found defined e is = tt
+handed_on_fault (Err other) found defined e is = is ∙ ap Err (sym e)
 
 pub refused : (text : List ℕ) (found : UriFault) → text_fault text ≡ Some found → Refuses found (normal_of text)
 refused text found e = refuses found (normal_of text) (faulty text found e)
 
-pub too_long : (text normal : List ℕ) → text_fault text ≡ None → normal ≡ normal_text text → 8192 < length normal → normal_of text ≡ Err fault.TooLong
+pub too_long : (text normal : List ℕ) → text_fault text ≡ None → normal ≡ normal_text text → MAX_LEN < length normal → normal_of text ≡ Err fault.TooLong
 unfolding normal_of
-too_long text normal e same long = rw (e, lt-ltb 8192 (length (normal_text text)) (omega (arith, ap length same))) refl
+too_long text normal e same long = rw (e, lt-ltb MAX_LEN (length (normal_text text)) (omega (arith, ap length same))) refl
 
-pub reads : (text normal : List ℕ) → text_fault text ≡ None → normal ≡ normal_text text → length normal ≤ 8192 → normal_of text ≡ Ok normal
+pub reads : (text normal : List ℕ) → text_fault text ≡ None → normal ≡ normal_text text → length normal ≤ MAX_LEN → normal_of text ≡ Ok normal
 unfolding normal_of
-reads text normal e same short = rw (e, le-ltb 8192 (length (normal_text text)) (omega (arith, ap length same)), same) refl
+reads text normal e same short = rw (e, le-ltb MAX_LEN (length (normal_text text)) (omega (arith, ap length same)), same) refl
+
+-- the same by the test of the length
+pub reads_long : (text normal : List ℕ) → text_fault text ≡ None → normal ≡ normal_text text → nat_lt MAX_LEN (length normal) ≡ true → normal_of text ≡ Err fault.TooLong
+reads_long text normal e same long = too_long text normal e same (grind (arith, nat_tests))
+
+pub reads_short : (text normal : List ℕ) → text_fault text ≡ None → normal ≡ normal_text text → nat_lt MAX_LEN (length normal) ≡ false → normal_of text ≡ Ok normal
+reads_short text normal e same short = reads text normal e same (grind (arith, nat_tests))
 
 -- ---- what an accepted text begins with
 

@@ -4,10 +4,11 @@ use Rattle.std.specs.Prelude.{codes}
 use Rattle.std.specs.List.{list_all}
 use Rattle.std.proofs.lemmas.Bool.Decides.{nat_tests}
 use Rattle.std.proofs.lemmas.List.Folds.{list_all-append}
+use Rattle.usp_uri.specs.declared.fault.TheConstants.{MAX_LEN}
 use Rattle.usp_uri.specs.declared.fault.UriFault.{UriFault}
 use Rattle.usp_uri.specs.declared.fault.UriFault.TheVariants as fault
 use Rattle.usp_uri.specs.Letters.{is_slash, ends_authority}
-use Rattle.usp_uri.specs.Cuts.{with_mark, first_outside}
+use Rattle.usp_uri.specs.Delimited.{with_mark, first_outside}
 use Rattle.usp_uri.specs.Components.{Components, components_of, text_of, authority_of, target_of, scheme_in, authority_start, after_scheme, authority_in, after_authority, host_in, port_in, path_in, query_in}
 use Rattle.usp_uri.specs.Normal.{normal_components}
 use Rattle.usp_uri.specs.Faults.{normal_of}
@@ -53,7 +54,7 @@ mixed_text root uri r u =
     ∙ ap (λ (t : List ℕ). scheme_in root ++ (codes "://" ++ (authority_of (components_of root) ++ t))) (target_whole uri u)
 
 -- What is moved is in normal form.
-pub moved_normal : (place : Origin) (uri text : List ℕ) → IsNormalOrigin place → normal_of uri ≡ Ok uri → text ≡ moved_text uri place → length text ≤ 8192 → normal_of text ≡ Ok text
+pub moved_normal : (place : Origin) (uri text : List ℕ) → IsNormalOrigin place → normal_of uri ≡ Ok uri → text ≡ moved_text uri place → length text ≤ MAX_LEN → normal_of text ≡ Ok text
 moved_normal place uri text p u is short =
     let root = root_of place in
     let ours = accepted_spelled root (accepted root root p.normal).0 in

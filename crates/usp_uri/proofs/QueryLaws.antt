@@ -2,8 +2,9 @@
 use Rattle.std.proofs.Common.{◌≡◌, ℕ, ◌≤◌, true, eqb, ◌&&◌, ◌||◌, List, [], ◌∷◌, ◌++◌, length, Some, None, Ok, refl, sym, ap, subst, ◌∙◌, append_assoc, arith}
 use Rattle.std.specs.Prelude.{codes, IfSome, IsTrue, option_map}
 use Rattle.std.specs.List.{list_all}
+use Rattle.usp_uri.specs.declared.fault.TheConstants.{MAX_LEN}
 use Rattle.usp_uri.specs.Letters.{is_literal}
-use Rattle.usp_uri.specs.Cuts.{with_mark}
+use Rattle.usp_uri.specs.Delimited.{with_mark}
 use Rattle.usp_uri.specs.Components.{Components, components_of, text_of, authority_of, target_of, query_in}
 use Rattle.usp_uri.specs.Faults.{normal_of}
 use Rattle.usp_uri.specs.Grammar.{is_query}
@@ -49,7 +50,7 @@ with_query_text p query more e =
     ∙ ap (λ (t : List ℕ). p.scheme ++ (codes "://" ++ t))
     (append_assoc (authority_of p) (target_of p) more ∙ ap (λ (t : List ℕ). authority_of p ++ t) (append_assoc p.path (with_mark 63 p.query) more ∙ ap (λ (t : List ℕ). p.path ++ t) e))
 
-longer_normal : (text query more : List ℕ) → normal_of text ≡ Ok text → with_mark 63 (query_in text) ++ more ≡ 63 ∷ query → are_settled_or (codes "/?") query ≡ true → length (text ++ more) ≤ 8192
+longer_normal : (text query more : List ℕ) → normal_of text ≡ Ok text → with_mark 63 (query_in text) ++ more ≡ 63 ∷ query → are_settled_or (codes "/?") query ≡ true → length (text ++ more) ≤ MAX_LEN
     → normal_of (text ++ more) ≡ Ok (text ++ more)
 longer_normal text query more normal e settled short =
     let p = components_of text in
@@ -58,12 +59,12 @@ longer_normal text query more normal e settled short =
     subst (λ (t : List ℕ). normal_of t ≡ Ok t) (sym whole) (normal_reads (with_query p query) (with_query_normal p query (normal_has text normal) settled) (omega (arith, ap length whole)))
 
 -- A query that begins behind a URI without one.
-pub begun_normal : (text more : List ℕ) → normal_of text ≡ Ok text → query_in text ≡ None → list_all is_literal more ≡ true → length (text ++ (63 ∷ more)) ≤ 8192
+pub begun_normal : (text more : List ℕ) → normal_of text ≡ Ok text → query_in text ≡ None → list_all is_literal more ≡ true → length (text ++ (63 ∷ more)) ≤ MAX_LEN
     → normal_of (text ++ (63 ∷ more)) ≡ Ok (text ++ (63 ∷ more))
 begun_normal text more normal none literal short = longer_normal text more (63 ∷ more) normal (ap (λ q. with_mark 63 q ++ (63 ∷ more)) none) (literals_settled more literal) short
 
 -- A query that grows at its end.
-pub grown_normal : (text query more : List ℕ) → normal_of text ≡ Ok text → query_in text ≡ Some query → list_all is_literal more ≡ true → length (text ++ more) ≤ 8192
+pub grown_normal : (text query more : List ℕ) → normal_of text ≡ Ok text → query_in text ≡ Some query → list_all is_literal more ≡ true → length (text ++ more) ≤ MAX_LEN
     → normal_of (text ++ more) ≡ Ok (text ++ more)
 grown_normal text query more normal some literal short =
     let n = normal_has text normal in

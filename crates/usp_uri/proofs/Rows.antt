@@ -9,8 +9,8 @@ use Rattle.usp_uri.specs.Faults.{normal_of}
 abbrev Reads : List ℕ → List ℕ → Type 0
 Reads text normal = normal_of text ≡ Ok normal
 
-abbrev Refuses : List ℕ → UriFault → Type 0
-Refuses text f = normal_of text ≡ Err f
+abbrev Refuses : UriFault → List ℕ → Type 0
+Refuses found text = normal_of text ≡ Err found
 
 all_four_steps : Reads (codes "HTTP://Example.COM:80/%7ea/./b/../c") (codes "http://example.com/~a/c")
 unfolding normal_of
@@ -28,27 +28,27 @@ empty_port_goes : Reads (codes "http://h:/%2f") (codes "http://h/%2F")
 unfolding normal_of
 empty_port_goes = refl
 
-no_digits : Refuses (codes "http://h/%zz") (fault.Escape 9)
+no_digits : Refuses (fault.Escape 9) (codes "http://h/%zz")
 unfolding normal_of
 no_digits = refl
 
-userinfo : Refuses (codes "http://u@h/") fault.Userinfo
+userinfo : Refuses fault.Userinfo (codes "http://u@h/")
 unfolding normal_of
 userinfo = refl
 
-leading_zero : Refuses (codes "http://h:080/") fault.Port
+leading_zero : Refuses fault.Port (codes "http://h:080/")
 unfolding normal_of
 leading_zero = refl
 
-fragment : Refuses (codes "http://h/#a") fault.Fragment
+fragment : Refuses fault.Fragment (codes "http://h/#a")
 unfolding normal_of
 fragment = refl
 
-other_scheme : Refuses (codes "ftp://h/") fault.Scheme
+other_scheme : Refuses fault.Scheme (codes "ftp://h/")
 unfolding normal_of
 other_scheme = refl
 
-no_host : Refuses (codes "http:///a") (fault.Syntax 7)
+no_host : Refuses (fault.Syntax 7) (codes "http:///a")
 unfolding normal_of
 no_host = refl
 

@@ -6,7 +6,7 @@ use Rattle.std.specs.Str.{bytes_eq}
 use Rattle.std.specs.Char.{to_ascii_lowercase, is_ascii_lowercase}
 use Rattle.std.proofs.lemmas.Bool.Decides.{nat_tests}
 use Rattle.usp_uri.specs.Letters.{is_colon}
-use Rattle.usp_uri.specs.Cuts.{until}
+use Rattle.usp_uri.specs.Delimited.{until}
 use Rattle.usp_uri.specs.Components.{scheme_in}
 use Rattle.usp_uri.specs.Faults.{begins_in_any_case}
 

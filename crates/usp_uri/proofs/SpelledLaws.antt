@@ -7,9 +7,10 @@ use Rattle.std.specs.Char.{is_ascii_digit, to_ascii_lowercase}
 use Rattle.std.proofs.lemmas.Bool.Decides.{nat_tests}
 use Rattle.std.proofs.lemmas.List.{append-nil}
 use Rattle.std.proofs.lemmas.List.Folds.{list_all-append}
+use Rattle.usp_uri.specs.declared.fault.TheConstants.{MAX_LEN}
 use Rattle.usp_uri.specs.declared.fault.UriFault.TheVariants as fault
 use Rattle.usp_uri.specs.Letters.{is_slash, is_host_byte, is_unreserved, is_sub_delim, is_one_of, is_literal}
-use Rattle.usp_uri.specs.Cuts.{with_mark, first_outside}
+use Rattle.usp_uri.specs.Delimited.{with_mark, first_outside}
 use Rattle.usp_uri.specs.Components.{Components, text_of, authority_of, target_of, authority_in, authority_start}
 use Rattle.usp_uri.specs.Faults.{is_port, begins_with_digits, is_allowed, begins_in_any_case, scheme_fault, userinfo_fault, host_fault, host_fault_at, port_fault, port_fault_in, rest_fault, rest_fault_at, text_fault, normal_of}
 use Rattle.usp_uri.specs.Grammar.{IsUri, is_host, is_path, is_query, are_pchars_or}
@@ -129,7 +130,7 @@ target_good at (c ∷ rest) query e h =
     let parts = both (is_slash c) (are_pchars_or (codes "/") rest) e in
     rw (slash_is c (rest ++ with_mark 63 query) parts.0) (pchars_good (codes "/") slash_literal (at + 1) rest (with_mark 63 query) parts.1 (query_good query h))
 
-pub spelled_no_fault : (p : Components) → IsUri p → length (text_of p) ≤ 8192 → text_fault (text_of p) ≡ None
+pub spelled_no_fault : (p : Components) → IsUri p → length (text_of p) ≤ MAX_LEN → text_fault (text_of p) ≡ None
 spelled_no_fault p u short =
     let a = IsApart-from_uri p u in
     let t = text_of p in
@@ -142,7 +143,7 @@ spelled_no_fault p u short =
     no_fault t short s userinfo host port rest
 
 -- What the grammar spells, and is short enough, has the normal form of its components.
-pub spelled_normal : (p : Components) (text : List ℕ) → IsUri p → text ≡ text_of p → length text ≤ 8192 → length (text_of (normal_components p)) ≤ 8192 → normal_of text ≡ Ok (text_of (normal_components p))
+pub spelled_normal : (p : Components) (text : List ℕ) → IsUri p → text ≡ text_of p → length text ≤ MAX_LEN → length (text_of (normal_components p)) ≤ MAX_LEN → normal_of text ≡ Ok (text_of (normal_components p))
 spelled_normal p text u e short short_normal =
     let none : text_fault text ≡ None = ap text_fault e ∙ spelled_no_fault p u (omega (arith, ap length e)) in
     reads text (text_of (normal_components p)) none (ap (λ q. text_of (normal_components q)) (sym (components_of-spelled p text u e))) short_normal

@@ -21,7 +21,7 @@ no_slash c e = grind (arith, nat_tests)
 slash_no_dot : (c : ℕ) → is_slash c ≡ true → (eqb 46 c ≡ false) × (eqb c 46 ≡ false)
 slash_no_dot c e = (grind (arith, nat_tests), grind (arith, nat_tests))
 
-single_is : (s : List ℕ) → is_single_dot s ≡ true → s ≡ 46 ∷ []
+pub single_is : (s : List ℕ) → is_single_dot s ≡ true → s ≡ 46 ∷ []
 single_is [] e = absurd cc
 single_is (c ∷ []) e = ap (λ n. n ∷ []) (dot_is c (both (eqb c 46) true e).0)
   where
@@ -29,7 +29,7 @@ single_is (c ∷ []) e = ap (λ n. n ∷ []) (dot_is c (both (eqb c 46) true e).
     dot_is c e = grind (arith, nat_tests)
 single_is (c ∷ d ∷ s) e = absurd (cc (both (eqb c 46) false e).1)
 
-double_is : (s : List ℕ) → is_double_dot s ≡ true → s ≡ 46 ∷ 46 ∷ []
+pub double_is : (s : List ℕ) → is_double_dot s ≡ true → s ≡ 46 ∷ 46 ∷ []
 double_is [] e = absurd cc
 double_is (c ∷ []) e = absurd (cc (both (eqb c 46) false e).1)
 double_is (c ∷ d ∷ []) e =
@@ -85,7 +85,7 @@ path_from-last : (segments : List (List ℕ)) (s : List ℕ) → path_from (segm
 path_from-last [] s = ap (λ (t : List ℕ). 47 ∷ t) (append-nil s)
 path_from-last (t ∷ ts) s = ap (λ (x : List ℕ). 47 ∷ t ++ x) (path_from-last ts s) ∙ sym (append_assoc (47 ∷ t) (path_from ts) (47 ∷ s))
 
-output_more : (kept : List (List ℕ)) (s : List ℕ) → path_from (reverse kept) ++ (47 ∷ s) ≡ path_from (reverse (s ∷ kept))
+pub output_more : (kept : List (List ℕ)) (s : List ℕ) → path_from (reverse kept) ++ (47 ∷ s) ≡ path_from (reverse (s ∷ kept))
 output_more kept s = sym (path_from-last (reverse kept) s) ∙ ap path_from (sym (reverse-append (s ∷ []) kept))
 
 output_less : (kept : List (List ℕ)) → list_all has_no_slash kept ≡ true → IsWithoutLast (path_from (reverse kept)) (path_from (reverse (without_last kept)))
@@ -94,7 +94,7 @@ output_less (s ∷ kept) e =
     let first = both (has_no_slash s) (list_all has_no_slash kept) e in
     subst (λ (t : List ℕ). IsWithoutLast t (path_from (reverse kept))) (output_more kept s) (segment (path_from (reverse kept)) s first.0)
 
-less_free : (kept : List (List ℕ)) → list_all has_no_slash kept ≡ true → list_all has_no_slash (without_last kept) ≡ true
+pub less_free : (kept : List (List ℕ)) → list_all has_no_slash kept ≡ true → list_all has_no_slash (without_last kept) ≡ true
 less_free [] e = refl
 less_free (s ∷ kept) e = (both (has_no_slash s) (list_all has_no_slash kept) e).1
 
@@ -157,7 +157,7 @@ pieces_whole : (text : List ℕ) → path_from (pieces text) ≡ 47 ∷ text
 pieces_whole [] = refl
 pieces_whole (c ∷ rest) = pieces_case (is_slash c) c rest refl (pieces_whole rest)
 
-path_whole : (path : List ℕ) → is_at_slash path ≡ true → path_from (segments_of path) ≡ path
+pub path_whole : (path : List ℕ) → is_at_slash path ≡ true → path_from (segments_of path) ≡ path
 path_whole [] slash = refl
 path_whole (c ∷ rest) slash = pieces_whole rest ∙ ap (λ n. n ∷ rest) (sym (slash_is c slash))
   where

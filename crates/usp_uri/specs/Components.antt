@@ -1,7 +1,8 @@
 -- The components of a URI: how RFC 3986 cuts a text into them (section 3) and puts them together (section 5.3).
 use Rattle.std.specs.Prelude.{ℕ, ◌+◌, List, ◌++◌, length, drop, Option, codes}
+use Rattle.std.specs.Str.{byte}
 use Rattle.usp_uri.specs.Letters.{is_colon, is_hash, ends_authority, ends_path}
-use Rattle.usp_uri.specs.Cuts.{until, from_first, after_mark, with_mark}
+use Rattle.usp_uri.specs.Delimited.{until, from_first, after_mark, with_mark}
 
 pub record Components : Type 0 where
   pub scheme : List ℕ
@@ -13,11 +14,11 @@ pub record Components : Type 0 where
   pub query : Option (List ℕ)
 
 abbrev pub authority_of : Components → List ℕ
-authority_of p = p.host ++ with_mark 58 p.port
+authority_of p = p.host ++ with_mark (byte ":") p.port
 
 -- the path, and the query with its '?'
 abbrev pub target_of : Components → List ℕ
-target_of p = p.path ++ with_mark 63 p.query
+target_of p = p.path ++ with_mark (byte "?") p.query
 
 abbrev pub text_of : Components → List ℕ
 text_of p = p.scheme ++ (codes "://" ++ (authority_of p ++ target_of p))

@@ -20,24 +20,36 @@ is_at_slash (c ∷ rest) = is_slash c
 
 -- a first segment, with its '/' if it has one, and what follows it
 pub data IsFirstSegment : List ℕ → List ℕ → Type 0 where
-  behind_slash : (segment rest : List ℕ) → has_no_slash segment ≡ true → is_at_slash rest ≡ true → IsFirstSegment (codes "/" ++ segment) rest
-  bare : (segment rest : List ℕ) → has_no_slash segment ≡ true → is_at_slash rest ≡ true → IsFirstSegment segment rest
+  behind_slash : (segment rest : List ℕ) → has_no_slash segment ≡ true → is_at_slash rest ≡ true
+      → IsFirstSegment (codes "/" ++ segment) rest
+  bare : (segment rest : List ℕ) → has_no_slash segment ≡ true → is_at_slash rest ≡ true
+      → IsFirstSegment segment rest
 
 -- one of the steps A to D fits
 abbrev pub begins_with_dots : List ℕ → Bool
 begins_with_dots input =
-    starts_with nat_eq input (codes "../") || starts_with nat_eq input (codes "./") || starts_with nat_eq input (codes "/./") || bytes_eq input (codes "/.")
-    || starts_with nat_eq input (codes "/../") || bytes_eq input (codes "/..") || bytes_eq input (codes ".") || bytes_eq input (codes "..")
+    starts_with nat_eq input (codes "../") || starts_with nat_eq input (codes "./")
+    || starts_with nat_eq input (codes "/./") || bytes_eq input (codes "/.")
+    || starts_with nat_eq input (codes "/../") || bytes_eq input (codes "/..")
+    || bytes_eq input (codes ".") || bytes_eq input (codes "..")
 
 -- from this input and this output the steps lead to this result
-pub data RemovesDots : List ℕ → List ℕ → List ℕ → Type 0 where
-  a_parent : (rest output result : List ℕ) → RemovesDots rest output result → RemovesDots (codes "../" ++ rest) output result
-  a_self : (rest output result : List ℕ) → RemovesDots rest output result → RemovesDots (codes "./" ++ rest) output result
-  b_self : (rest output result : List ℕ) → RemovesDots (codes "/" ++ rest) output result → RemovesDots (codes "/./" ++ rest) output result
-  b_end : (output result : List ℕ) → RemovesDots (codes "/") output result → RemovesDots (codes "/.") output result
-  c_parent : (rest output less result : List ℕ) → IsWithoutLast output less → RemovesDots (codes "/" ++ rest) less result → RemovesDots (codes "/../" ++ rest) output result
-  c_end : (output less result : List ℕ) → IsWithoutLast output less → RemovesDots (codes "/") less result → RemovesDots (codes "/..") output result
+pub data RemovesDots : (input output result : List ℕ) → Type 0 where
+  a_parent : (rest output result : List ℕ) → RemovesDots rest output result
+      → RemovesDots (codes "../" ++ rest) output result
+  a_self : (rest output result : List ℕ) → RemovesDots rest output result
+      → RemovesDots (codes "./" ++ rest) output result
+  b_self : (rest output result : List ℕ) → RemovesDots (codes "/" ++ rest) output result
+      → RemovesDots (codes "/./" ++ rest) output result
+  b_end : (output result : List ℕ) → RemovesDots (codes "/") output result
+      → RemovesDots (codes "/.") output result
+  c_parent : (rest output less result : List ℕ) → IsWithoutLast output less
+      → RemovesDots (codes "/" ++ rest) less result → RemovesDots (codes "/../" ++ rest) output result
+  c_end : (output less result : List ℕ) → IsWithoutLast output less
+      → RemovesDots (codes "/") less result → RemovesDots (codes "/..") output result
   d_self : (output result : List ℕ) → RemovesDots [] output result → RemovesDots (codes ".") output result
   d_parent : (output result : List ℕ) → RemovesDots [] output result → RemovesDots (codes "..") output result
-  e_segment : (first rest output result : List ℕ) → begins_with_dots (first ++ rest) ≡ false → IsFirstSegment first rest → RemovesDots rest (output ++ first) result → RemovesDots (first ++ rest) output result
+  e_segment : (first rest output result : List ℕ) → begins_with_dots (first ++ rest) ≡ false
+      → IsFirstSegment first rest → RemovesDots rest (output ++ first) result
+      → RemovesDots (first ++ rest) output result
   done : (output : List ℕ) → RemovesDots [] output output

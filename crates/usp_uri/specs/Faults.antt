@@ -8,7 +8,7 @@ use Rattle.usp_uri.specs.declared.fault.UriFault.{UriFault}
 use Rattle.usp_uri.specs.declared.fault.UriFault.TheVariants as fault
 use Rattle.usp_uri.specs.declared.fault.TheConstants.{MAX_LEN}
 use Rattle.usp_uri.specs.Letters.{is_host_byte, is_literal, is_hash}
-use Rattle.usp_uri.specs.Cuts.{first_outside}
+use Rattle.usp_uri.specs.Delimited.{first_outside}
 use Rattle.usp_uri.specs.Components.{components_of, text_of, authority_start, authority_in, host_in, port_in, after_authority}
 use Rattle.usp_uri.specs.Normal.{normal_components}
 
@@ -37,7 +37,8 @@ host_fault text = host_fault_at (authority_start text) (host_in text)
 -- nothing, or a number from 1 to 65,535 in digits without a leading zero
 abbrev pub is_port : List ℕ → Bool
 is_port [] = true
-is_port (c ∷ rest) = list_all is_ascii_digit (c ∷ rest) && (not (c == byte "0") && nat_lt (digits_value 10 (c ∷ rest)) 65536)
+is_port (c ∷ rest) =
+    list_all is_ascii_digit (c ∷ rest) && (not (c == byte "0") && nat_lt (digits_value 10 (c ∷ rest)) 65536)
 
 abbrev pub port_fault_in : Option (List ℕ) → Option UriFault
 port_fault_in None = None
@@ -78,7 +79,8 @@ first_fault (Some found ∷ others) = Some found
 abbrev pub text_fault : List ℕ → Option UriFault
 text_fault text =
     first_fault
-    (length_fault text ∷ scheme_fault text ∷ userinfo_fault text ∷ host_fault text ∷ port_fault text ∷ rest_fault text ∷ [])
+    (length_fault text ∷ scheme_fault text ∷ userinfo_fault text ∷ host_fault text ∷ port_fault text
+    ∷ rest_fault text ∷ [])
 
 -- the text made of the four steps, which means something where the text has no fault
 abbrev pub normal_text : List ℕ → List ℕ

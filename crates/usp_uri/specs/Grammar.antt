@@ -19,7 +19,8 @@ is_host (c ∷ rest) = list_all is_host_byte (c ∷ rest)
 abbrev pub are_pchars_or : List ℕ → List ℕ → Bool
 are_pchars_or others [] = true
 are_pchars_or others (c ∷ rest) =
-    (is_unreserved c || is_sub_delim c || is_one_of (codes ":@") c || is_one_of others c || (c == byte "%" && begins_with_digits rest))
+    (is_unreserved c || is_sub_delim c || is_one_of (codes ":@") c || is_one_of others c
+    || (c == byte "%" && begins_with_digits rest))
     && are_pchars_or others rest
 
 abbrev pub is_path : List ℕ → Bool

@@ -2,6 +2,7 @@
 -- host, a path and a query.
 use Rattle.std.specs.Prelude.{ℕ, ◌+◌, ◌*◌, Bool, ◌||◌, ◌==◌, List, codes}
 use Rattle.std.specs.List.{list_any}
+use Rattle.std.specs.Str.{byte}
 use Rattle.std.specs.Char.{is_ascii_alphanumeric, digit_value}
 
 abbrev pub is_one_of : List ℕ → ℕ → Bool
@@ -32,10 +33,10 @@ abbrev pub escaped_byte : ℕ → ℕ → ℕ
 escaped_byte high low = 16 * digit_value high + digit_value low
 
 abbrev pub is_colon : ℕ → Bool
-is_colon c = c == 58
+is_colon c = c == byte ":"
 
 abbrev pub is_slash : ℕ → Bool
-is_slash c = c == 47
+is_slash c = c == byte "/"
 
 -- what ends an authority: '/', '?' or '#'
 abbrev pub ends_authority : ℕ → Bool
@@ -46,4 +47,4 @@ abbrev pub ends_path : ℕ → Bool
 ends_path c = is_one_of (codes "?#") c
 
 abbrev pub is_hash : ℕ → Bool
-is_hash c = c == 35
+is_hash c = c == byte "#"

@@ -1,11 +1,12 @@
 pub mod Letters
-pub mod Cuts
+pub mod Delimited
 pub mod Components
 pub mod Normal
 pub mod DotSegments
 pub mod Faults
-pub mod Cut
+pub mod ComponentSlices
 pub mod Kept
 pub mod Grammar
 pub mod Answers
 pub mod Origin
+pub mod Segments

@@ -4,7 +4,7 @@ use Rattle.usp_uri.specs.declared.fault.UriFault.{UriFault}
 use Rattle.usp_uri.specs.declared.fault.UriFault.TheVariants as fault
 use Rattle.usp_uri.specs.declared.fault.TheConstants.{MAX_LEN}
 use Rattle.usp_uri.specs.Letters.{is_one_of, is_slash}
-use Rattle.usp_uri.specs.Cuts.{first_outside}
+use Rattle.usp_uri.specs.Delimited.{first_outside}
 use Rattle.usp_uri.specs.Components.{scheme_in, authority_in, after_authority, authority_start, after_scheme}
 use Rattle.usp_uri.specs.Faults.{normal_of}
 
@@ -35,7 +35,8 @@ origin_when None normal = Ok (record { scheme = scheme_in normal; authority = au
 
 abbrev pub origin_from : List ℕ → Result (List ℕ) UriFault → Result Origin UriFault
 origin_from text (Err found) = Err found
-origin_from text (Ok normal) = origin_when (first_outside is_no_path_byte (authority_start text) (after_scheme text)) normal
+origin_from text (Ok normal) =
+    origin_when (first_outside is_no_path_byte (authority_start text) (after_scheme text)) normal
 
 -- The place of a text: refused as the text is, or at the first '/' or '?' behind its "://".
 unfoldable pub origin_of : List ℕ → Result Origin UriFault

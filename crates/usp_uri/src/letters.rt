@@ -1,7 +1,7 @@
 //! The classes of bytes that a URI is made of.
 
 ghost use Rattle.std.specs.Prelude.{◌≡◌};
-ghost use Rattle.usp_uri.specs.Letters.{is_unreserved, is_sub_delim, is_gen_delim, is_reserved, is_literal};
+ghost use Rattle.usp_uri.specs.Letters.{is_unreserved, is_sub_delim, is_gen_delim, is_literal};
 
 /// A letter, a digit, `-`, `.`, `_` or `~` (RFC 3986 section 2.3).
 pub fn is_unreserved(c: u8) -> bool
@@ -25,13 +25,6 @@ pub fn is_gen_delim(c: u8) -> bool
     ensures { result ≡ is_gen_delim c }
 {
     matches!(c, b':' | b'/' | b'?' | b'#' | b'[' | b']' | b'@')
-}
-
-/// A delimiter of either kind (RFC 3986 section 2.2).
-pub fn is_reserved(c: u8) -> bool
-    ensures { result ≡ is_reserved c }
-{
-    is_gen_delim(c) || is_sub_delim(c)
 }
 
 /// What stands for itself in a path or a query.

@@ -3,14 +3,14 @@
 ghost use Rattle.std.specs.Prelude.{◌≡◌, ◌≤◌, ◌+◌, length, None, Some, IfSome, IfNone, MatchResult, Ok, ◌<◌, ◌^◌};
 ghost use Rattle.usp_uri.specs.Components.{components_of, scheme_in, after_scheme, authority_start, authority_in, after_authority};
 ghost use Rattle.usp_uri.specs.Faults.{text_fault, scheme_fault, begins_in_any_case, normal_of};
-ghost use Rattle.usp_uri.specs.Cut.{components};
-ghost use Rattle.usp_uri.specs.Cuts.{after_mark, first_outside};
+ghost use Rattle.usp_uri.specs.ComponentSlices.{components};
+ghost use Rattle.usp_uri.specs.Delimited.{after_mark, first_outside};
 ghost use Rattle.std.specs.Option.{option_copied};
 ghost use Rattle.usp_uri.specs.Origin.{is_no_path_byte};
 
 use crate::checks::{has_at_sign, host_fault, port_fault, rest_fault};
-use crate::cut::Cut;
-use crate::cuts::{cut_at_colon, cut_at_hash, cut_authority, cut_path};
+use crate::component_slices::ComponentSlices;
+use crate::delimited::{cut_at_colon, cut_at_hash, cut_authority, cut_path};
 use crate::fault::{MAX_LEN, UriFault};
 
 /// Whether the text begins with the name, in any case.
@@ -53,8 +53,10 @@ fn after_mark(text: &[u8]) -> Option<&[u8]>
 }
 
 /// The components of a text without a fault, or its first fault.
-pub fn read(text: &[u8]) -> Result<Cut<'_>, UriFault>
-    ensures { MatchResult result (λ cut. (text_fault text.now ≡ None) × (components cut ≡ components_of text.now)) (λ fault. text_fault text.now ≡ Some fault) }
+pub fn read(text: &[u8]) -> Result<ComponentSlices<'_>, UriFault>
+    ensures { MatchResult result
+        (λ slices. (text_fault text.now ≡ None) × (components slices ≡ components_of text.now))
+        (λ fault. text_fault text.now ≡ Some fault) }
 {
     if text.len() > MAX_LEN {
         return Err(UriFault::TooLong);
@@ -81,7 +83,7 @@ pub fn read(text: &[u8]) -> Result<Cut<'_>, UriFault>
     }
     let (path, query) = cut_path(rest);
     let (query, _) = cut_at_hash(query);
-    Ok(Cut {
+    Ok(ComponentSlices {
         scheme,
         host,
         port,
@@ -103,7 +105,7 @@ pub fn split_normal(text: &[u8]) -> (&[u8], &[u8])
 }
 
 /// The components of a text in normal form.
-pub fn cut_normal(text: &[u8]) -> Cut<'_>
+pub fn cut_normal(text: &[u8]) -> ComponentSlices<'_>
     requires { normal_of text.now ≡ Ok text.now }
     ensures { components result ≡ components_of text.now }
 {
@@ -112,7 +114,7 @@ pub fn cut_normal(text: &[u8]) -> Cut<'_>
     let (host, port) = cut_at_colon(authority);
     let (path, query) = cut_path(rest);
     let (query, _) = cut_at_hash(query);
-    Cut {
+    ComponentSlices {
         scheme,
         host,
         port: after_mark(port),

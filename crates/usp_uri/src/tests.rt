@@ -4,15 +4,16 @@ use std::test::*;
 
 fn reads_as(alloc: Global, text: &[u8], wanted: &[u8]) -> bool {
     match read_uri(alloc, text) {
-        Ok(uri) => uri.text() == wanted,
+        Ok(uri) => uri.text() == wanted && check_uri(text) == Ok(()),
         Err(_) => false,
     }
 }
 
+/// Whether both calls refuse the text by this fault.
 fn is_refused(alloc: Global, text: &[u8], wanted: UriFault) -> bool {
     match read_uri(alloc, text) {
         Ok(_) => false,
-        Err(fault) => fault == wanted,
+        Err(fault) => fault == wanted && check_uri(text) == Err(wanted),
     }
 }
 
@@ -296,6 +297,7 @@ fn keeps_the_limit_before_and_after_the_steps(rt: HostRuntime) {
         ("http://h/", 8192, "", ""),
         ("http://", 8191, "", "/"),
         ("http://", 8191, ":", "/"),
+        ("http://", 8188, "?%41", "/?A"),
     ] {
         assert!(rt;
             long_text_reads_as(rt.alloc(), front, length, end, wanted),
@@ -307,6 +309,7 @@ fn keeps_the_limit_before_and_after_the_steps(rt: HostRuntime) {
         ("ftp://u@h/#", 8193, ""),
         ("http://", 8192, ""),
         ("http://", 8191, "?"),
+        ("http://", 8188, "?%2f"),
     ] {
         assert!(rt;
             long_text_is_too_long(rt.alloc(), front, length, end),
@@ -401,4 +404,59 @@ fn makes_the_uri_of_a_request(rt: HostRuntime) {
     ] {
         assert!(rt; requests(rt.alloc(), host, target, wanted), "{target}");
     }
+}
+
+fn segments(alloc: Global, text: &str) -> Option<usize> {
+    match read_uri(alloc, text.as_bytes()) {
+        Ok(uri) => Some(uri.segment_count()),
+        Err(_) => None,
+    }
+}
+
+#[test]
+fn counts_the_segments_of_a_path(rt: HostRuntime) {
+    for (text, wanted) in [
+        ("http://h", 1),
+        ("http://h/?a/b", 1),
+        ("http://h/v/1/s.ts", 3),
+        ("http://h/v/1/", 3),
+        ("http://h/a/../b", 1),
+        ("http://h//a%2Fb", 2),
+    ] {
+        assert_eq!(rt; segments(rt.alloc(), text), Some(wanted), "{text}");
+    }
+}
+
+#[test]
+fn says_what_to_mend(rt: HostRuntime) -> Result<(), Fail> {
+    for (fault, wanted) in [
+        (
+            UriFault::TooLong,
+            "the URI is longer than 8192 bytes: shorten it",
+        ),
+        (UriFault::Scheme, "begin the URI with http:// or https://"),
+        (
+            UriFault::Escape { at: 9 },
+            "write two hexadecimal digits behind the % at byte 9",
+        ),
+        (UriFault::NoMemory, "memory ran out"),
+    ] {
+        let told = format!(in rt.alloc(); "{fault}")?;
+        assert_eq!(rt; told.as_str(), wanted);
+    }
+    assert!(rt; UriFault::NoMemory.is_memory());
+    assert!(rt; !UriFault::TooLong.is_memory());
+    Ok(())
+}
+
+#[test]
+fn runs_the_example(rt: HostRuntime) -> Result<(), UriFault> {
+    let alloc = rt.alloc();
+    let uri = read_uri(alloc, b"HTTP://Example.com:80/%7ea/./b/../c?x")?;
+    assert!(rt; uri.text() == b"http://example.com/~a/c?x".as_slice());
+    assert!(rt; uri.path() == b"/~a/c".as_slice());
+    let place = Place::new(alloc, b"https", b"CDN.example:8443")?;
+    let moved = moved(alloc, &uri, &place)?;
+    assert!(rt; moved.text() == b"https://cdn.example:8443/~a/c?x".as_slice());
+    Ok(())
 }

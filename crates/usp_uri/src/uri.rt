@@ -1,20 +1,24 @@
 //! URIs in normal form, and the places they may be moved to.
 
-ghost use Rattle.std.specs.Prelude.{◌≡◌, ◌≤◌, List, length, Ok, IfOk, IfErr, ◌++◌, codes};
+ghost use Rattle.std.specs.Prelude.{◌≡◌, ◌≤◌, ℕ, List, length, Ok, Err, IfOk, IfErr, OnOk, ◌++◌, codes};
 ghost use Rattle.std.specs.Option.{option_copied};
 ghost use Rattle.usp_uri.specs.Components.{Components, scheme_in, authority_in, path_in, query_in, text_of};
-ghost use Rattle.usp_uri.specs.Cuts.{with_mark};
+ghost use Rattle.usp_uri.specs.Delimited.{with_mark};
 ghost use Rattle.std.specs.Str.{byte};
 ghost use Rattle.usp_uri.specs.Normal.{normal_components};
 ghost use Rattle.usp_uri.specs.Faults.{normal_of};
 ghost use Rattle.usp_uri.specs.Grammar.{Spells};
 ghost use Rattle.usp_uri.specs.Answers.{Gives, Refuses};
+ghost use Rattle.usp_uri.specs.Segments.{segments_in};
+ghost use Rattle.usp_uri.specs.declared.fault.TheConstants.{MAX_LEN};
 ghost use Rattle.usp_uri.specs.Origin.{IsNormalOrigin, origin_text, origin_of, moved_of, request_text};
 
-use crate::cut::Cut;
-use crate::cuts::cut_at_colon;
+use crate::component_slices::ComponentSlices;
+use crate::delimited::cut_at_colon;
 use crate::fault::{MAX_LEN, NoMemory, UriFault};
+use crate::lengths::outgrows;
 use crate::reading::{cut_normal, path_start, read, split_normal};
+use crate::segments::count_segments;
 use crate::writing::normal;
 use std::alloc::{AllocError, Global};
 use std::marker::Model;
@@ -44,7 +48,8 @@ impl Uri {
         // Read again it is the same URI.
         ensures normal { normal_of self.now ≡ Ok self.now }
         // It is what the other accessors give, put together.
-        ensures whole { self.now ≡ origin_text (scheme_in self.now) (authority_in self.now) ++ (path_in self.now ++ with_mark (byte "?") (query_in self.now)) }
+        ensures whole { self.now ≡ origin_text (scheme_in self.now) (authority_in self.now)
+            ++ (path_in self.now ++ with_mark (byte "?") (query_in self.now)) }
     {
         &self.text
     }
@@ -68,6 +73,14 @@ impl Uri {
         cut_normal(&self.text).path
     }
 
+    /// How many segments the path has: the parts behind its first '/', parted by '/'. The path "/"
+    /// has one, which is empty.
+    pub fn segment_count(&self) -> usize
+        ensures { result ≡ length (segments_in self.now) }
+    {
+        count_segments(self.path())
+    }
+
     /// None exactly where there is no query. An empty one is a query.
     pub fn query(&self) -> Option<&[u8]>
         ensures { option_copied result ≡ query_in self.now }
@@ -81,8 +94,8 @@ fn read_text(alloc: Global, text: &[u8]) -> Result<Vec<u8>, UriFault>
     ensures ok { IfOk result (λ normal. normal_of text.now ≡ Ok normal.items) }
     ensures refused { IfErr result (λ found. Refuses found (normal_of text.now)) }
 {
-    let cut = read(text)?;
-    let normal_form = normal(alloc, &cut)?;
+    let slices = read(text)?;
+    let normal_form = normal(alloc, &slices)?;
     if normal_form.len() > MAX_LEN {
         return Err(UriFault::TooLong);
     }
@@ -93,18 +106,37 @@ fn read_text(alloc: Global, text: &[u8]) -> Result<Vec<u8>, UriFault>
 ///
 /// # Errors
 ///
-/// The first fault, in the order of `UriFault`, with its offset in the text. `TooLong` once more
-/// at the end, where the normal form passes `MAX_LEN` by the '/' of an empty path.
+/// The first fault of the text from left to right: `TooLong`, `Scheme`, `Userinfo`, the host, the
+/// port, then the first byte of the rest that may not stand there. `TooLong` once more at the end,
+/// where the normal form passes `MAX_LEN` by the '/' of an empty path.
 pub fn read_uri(alloc: Global, text: &[u8]) -> Result<Uri, UriFault>
     // What is read is spelled by the grammar, and is the normal form of its components.
     ensures found { IfOk result (λ uri. (p : Components) × Spells p text.now × (uri ≡ text_of (normal_components p))) }
     // What is spelled so, and is short enough, is read.
-    ensures only { (p : Components) → Spells p text.now → length text.now ≤ 8192 → length (text_of (normal_components p)) ≤ 8192 → Gives result (Ok (text_of (normal_components p))) }
+    ensures only { (p : Components) → Spells p text.now → length text.now ≤ MAX_LEN
+        → length (text_of (normal_components p)) ≤ MAX_LEN → Gives result (Ok (text_of (normal_components p))) }
     // Which fault it is.
     ensures exact { Gives result (normal_of text.now) }
 {
     let text = read_text(alloc, text)?;
     Ok(Uri { text })
+}
+
+/// Whether the text is a URI of this product. It is exactly where `read_uri` reads it, and no memory
+/// is taken.
+///
+/// # Errors
+///
+/// The fault that `read_uri` finds.
+pub fn check_uri(text: &[u8]) -> Result<(), UriFault>
+    ensures ok { OnOk result ((normal : List ℕ) × (normal_of text.now ≡ Ok normal)) }
+    ensures refused { IfErr result (λ found. normal_of text.now ≡ Err found) }
+{
+    let slices = read(text)?;
+    if outgrows(&slices) {
+        return Err(UriFault::TooLong);
+    }
+    Ok(())
 }
 
 /// The one text of a scheme, "://" and an authority.

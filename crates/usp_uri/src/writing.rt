@@ -4,14 +4,15 @@ ghost use Rattle.std.specs.Prelude.{◌≡◌, ◌++◌, [], map, OnOk, IfOk, tr
 ghost use Rattle.std.specs.Option.{option_copied, option_map};
 ghost use Rattle.std.specs.Str.{byte};
 ghost use Rattle.std.specs.Char.{to_ascii_lowercase, digit_value};
-ghost use Rattle.usp_uri.specs.Cuts.{with_mark, until, from_first};
+ghost use Rattle.usp_uri.specs.Delimited.{with_mark, until, from_first};
 ghost use Rattle.usp_uri.specs.Letters.{is_slash, escaped_byte, is_unreserved};
 ghost use Rattle.usp_uri.specs.Kept.{stack_of, texts_of};
 ghost use Rattle.usp_uri.specs.Components.{text_of};
 ghost use Rattle.usp_uri.specs.Normal.{normal_escape, normal_escapes, kept_port, normal_components, remove_dot_segments, is_single_dot, is_double_dot, next_kept, at_the_end, resolved, segments_of, path_from, own_port, rooted};
-ghost use Rattle.usp_uri.specs.Cut.{components};
+ghost use Rattle.usp_uri.specs.ComponentSlices.{components};
 
-use crate::cut::Cut;
+use crate::component_slices::ComponentSlices;
+use crate::delimited::cut_at_slash;
 use crate::letters::is_unreserved;
 use std::alloc::{AllocError, Global};
 
@@ -29,7 +30,7 @@ fn digit_value(c: u8) -> u16
 
 /// The unreserved byte that an escape with these digits stands for.
 #[tactic(auto, using(crate::proofs::EscapeLemmas::past_ascii))]
-fn unreserved_byte(high: u8, low: u8) -> Option<u8>
+pub fn unreserved_byte(high: u8, low: u8) -> Option<u8>
     ensures some { IfSome result (λ c. (c ≡ escaped_byte high low) × (is_unreserved (escaped_byte high low) ≡ true)) }
     ensures none { IfNone result (is_unreserved (escaped_byte high low) ≡ false) }
 {
@@ -88,30 +89,14 @@ fn push_lower(out: &mut Vec<u8>, text: &[u8]) -> Result<(), AllocError>
     Ok(())
 }
 
-/// What stands before the first '/', and the text from there on.
-#[tactic(auto, using(crate::proofs::CutLemmas::cut_rules))]
-fn cut_at_slash(text: &[u8]) -> (&[u8], &[u8])
-    ensures front { result.0.now ≡ until is_slash text.now }
-    ensures back { result.1.now ≡ from_first is_slash text.now }
-{
-    let end = find_slash(text).unwrap_or(text.len());
-    text.split_at(end)
-}
-
-/// The offset of the first '/'.
-fn find_slash(text: &[u8]) -> Option<usize>
-    ensures { result ≡ position is_slash text.now }
-{
-    text.iter().position(|c| *c == b'/')
-}
-
-/// Whether the segment is "." or "..".
+/// Whether the segment is ".".
 fn is_single_dot(segment: &[u8]) -> bool
     ensures { result ≡ is_single_dot segment.now }
 {
     segment == b".".as_slice()
 }
 
+/// Whether the segment is "..".
 fn is_double_dot(segment: &[u8]) -> bool
     ensures { result ≡ is_double_dot segment.now }
 {
@@ -135,7 +120,8 @@ fn keep<'a>(kept: &mut Vec<&'a [u8]>, segment: &'a [u8]) -> Result<(), AllocErro
 
 /// The segments that stay after the last one.
 fn keep_last<'a>(kept: &mut Vec<&'a [u8]>, segment: &'a [u8]) -> Result<(), AllocError>
-    ensures { OnOk result (stack_of kept.new.items ≡ at_the_end (next_kept (stack_of kept.old.items) segment.now) segment.now) }
+    ensures { OnOk result (stack_of kept.new.items
+        ≡ at_the_end (next_kept (stack_of kept.old.items) segment.now) segment.now) }
 {
     keep(kept, segment)?;
     if is_single_dot(segment) || is_double_dot(segment) {
@@ -183,7 +169,7 @@ fn push_path(alloc: Global, out: &mut Vec<u8>, path: &[u8]) -> Result<(), AllocE
 }
 
 /// The scheme's own port.
-fn own_port(scheme: &[u8]) -> &'static [u8]
+pub fn own_port(scheme: &[u8]) -> &'static [u8]
     ensures { result.now ≡ own_port (map to_ascii_lowercase scheme.now) }
 {
     if scheme.eq_ignore_ascii_case(b"https") {
@@ -195,7 +181,8 @@ fn own_port(scheme: &[u8]) -> &'static [u8]
 
 /// Adds the port with its ':', unless it is empty or the scheme's own.
 fn push_port(out: &mut Vec<u8>, scheme: &[u8], port: Option<&[u8]>) -> Result<(), AllocError>
-    ensures { OnOk result (out.new.items ≡ out.old.items ++ with_mark 58 (kept_port (map to_ascii_lowercase scheme.now) (option_copied port.entry))) }
+    ensures { OnOk result (out.new.items ≡ out.old.items
+        ++ with_mark (byte ":") (kept_port (map to_ascii_lowercase scheme.now) (option_copied port.entry))) }
 {
     if let Some(port) = port {
         if !port.is_empty() && port != own_port(scheme) {
@@ -231,7 +218,8 @@ fn push_whole_path(alloc: Global, out: &mut Vec<u8>, path: &[u8]) -> Result<(), 
 
 /// Adds the query with its '?', where there is one.
 fn push_query(out: &mut Vec<u8>, query: Option<&[u8]>) -> Result<(), AllocError>
-    ensures { OnOk result (out.new.items ≡ out.old.items ++ with_mark 63 (option_map normal_escapes (option_copied query.entry))) }
+    ensures { OnOk result (out.new.items ≡ out.old.items
+        ++ with_mark (byte "?") (option_map normal_escapes (option_copied query.entry))) }
 {
     if let Some(query) = query {
         out.push(b'?')?;
@@ -241,15 +229,15 @@ fn push_query(out: &mut Vec<u8>, query: Option<&[u8]>) -> Result<(), AllocError>
 }
 
 /// The text of the components in normal form.
-pub fn normal(alloc: Global, cut: &Cut<'_>) -> Result<Vec<u8>, AllocError>
-    ensures { IfOk result (λ text. text.items ≡ text_of (normal_components (components cut.now))) }
+pub fn normal(alloc: Global, slices: &ComponentSlices<'_>) -> Result<Vec<u8>, AllocError>
+    ensures { IfOk result (λ text. text.items ≡ text_of (normal_components (components slices.now))) }
 {
     let mut out = Vec::new(alloc);
-    push_lower(&mut out, cut.scheme)?;
+    push_lower(&mut out, slices.scheme)?;
     out.extend_from_slice(b"://")?;
-    push_lower(&mut out, cut.host)?;
-    push_port(&mut out, cut.scheme, cut.port)?;
-    push_whole_path(alloc, &mut out, cut.path)?;
-    push_query(&mut out, cut.query)?;
+    push_lower(&mut out, slices.host)?;
+    push_port(&mut out, slices.scheme, slices.port)?;
+    push_whole_path(alloc, &mut out, slices.path)?;
+    push_query(&mut out, slices.query)?;
     Ok(out)
 }

@@ -1,5 +1,5 @@
 use Rattle.std.proofs.Common.{◌≡◌, ◌+◌, length}
-use Rattle.usp_uri.specs.Cuts.{first_outside}
+use Rattle.usp_uri.specs.Delimited.{first_outside}
 use Rattle.usp_uri.specs.Components.{authority_start, after_scheme}
 use Rattle.usp_uri.specs.Origin.{is_no_path_byte}
 use Rattle.usp_uri.proofs.reading.path_start.Given as goal

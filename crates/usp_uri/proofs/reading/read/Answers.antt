@@ -1,6 +1,6 @@
 use Rattle.std.proofs.Common.{◌≡◌, ◌+◌, length, take, drop, None, refl, sym, ap, ◌∙◌, arith}
 use Rattle.usp_uri.specs.Letters.{ends_authority, ends_path, is_colon, is_hash}
-use Rattle.usp_uri.specs.Cuts.{until, from_first, after_mark}
+use Rattle.usp_uri.specs.Delimited.{until, from_first, after_mark}
 use Rattle.usp_uri.specs.Components.{authority_start, authority_in, after_authority, host_in, port_in, path_in, query_in, scheme_in}
 use Rattle.usp_uri.specs.Faults.{userinfo_fault, host_fault, host_fault_at, port_fault, port_fault_in, rest_fault, rest_fault_at}
 use Rattle.std.specs.Option.{option_copied}

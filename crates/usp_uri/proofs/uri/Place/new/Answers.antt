@@ -1,6 +1,6 @@
 use Rattle.std.proofs.Common.{◌≡◌, Ok, sym, ap, subst, ◌∙◌}
 use Rattle.usp_uri.specs.Components.{authority_start, after_scheme}
-use Rattle.usp_uri.specs.Cuts.{first_outside}
+use Rattle.usp_uri.specs.Delimited.{first_outside}
 use Rattle.usp_uri.specs.Faults.{normal_of}
 use Rattle.usp_uri.specs.Answers.{Refuses}
 use Rattle.usp_uri.specs.Origin.{origin_text, origin_of, is_no_path_byte}

@@ -1,8 +1,8 @@
 //! Cutting a text at the first byte of a class.
 
 ghost use Rattle.std.specs.Prelude.{◌≡◌, ◌+◌, length, position};
-ghost use Rattle.usp_uri.specs.Letters.{is_colon, is_hash, ends_authority, ends_path};
-ghost use Rattle.usp_uri.specs.Cuts.{until, from_first};
+ghost use Rattle.usp_uri.specs.Letters.{is_colon, is_hash, is_slash, ends_authority, ends_path};
+ghost use Rattle.usp_uri.specs.Delimited.{until, from_first};
 
 /// The offset of the first ':'.
 fn find_colon(text: &[u8]) -> Option<usize>
@@ -73,5 +73,23 @@ pub fn cut_path(text: &[u8]) -> (&[u8], &[u8])
     ensures whole { length result.0.now + length result.1.now ≡ length text.now }
 {
     let end = find_path_end(text).unwrap_or(text.len());
+    text.split_at(end)
+}
+
+/// The offset of the first '/'.
+fn find_slash(text: &[u8]) -> Option<usize>
+    ensures { result ≡ position is_slash text.now }
+{
+    text.iter().position(|c| *c == b'/')
+}
+
+/// What stands before the first '/', and the text from there on.
+#[tactic(auto, using(crate::proofs::CutLemmas::cut_rules))]
+pub fn cut_at_slash(text: &[u8]) -> (&[u8], &[u8])
+    ensures front { result.0.now ≡ until is_slash text.now }
+    ensures back { result.1.now ≡ from_first is_slash text.now }
+    ensures whole { length result.0.now + length result.1.now ≡ length text.now }
+{
+    let end = find_slash(text).unwrap_or(text.len());
     text.split_at(end)
 }
