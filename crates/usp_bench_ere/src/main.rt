@@ -1,5 +1,6 @@
-//! Reads lines `EXPRESSION<tab>TEXT`, and prints for each whether the expression finds a part of the text:
-//! `found` or `none`, or why it is no expression.
+//! Reads lines `EXPRESSION<tab>TEXT` or `EXPRESSION<tab>TEXT<tab>TIMES`, and prints for each whether the expression
+//! finds a part of the text: `found` or `none`, or why it is no expression. It is compiled once and matched so many
+//! times, for whoever measures; where TIMES is 0 it is only compiled, and the answer is `none`.
 #![tactic(auto)]
 
 ghost use Rattle.std.specs.Prelude.{◌≡◌, ◌<◌};
@@ -16,6 +17,7 @@ fn match_with<L: Ledger>(
     blank: Blank,
     expression: &[u8],
     text: &[u8],
+    times: u32,
 ) -> Result<bool, EreFault>
     requires name { blank.name ≡ L.name }
     requires parts { blank.parts ≡ L.parts }
@@ -26,13 +28,19 @@ fn match_with<L: Ledger>(
         return Err(EreFault::NoMemory);
     };
     let mut steps = Steps::<L>::new(blank);
-    Ok(ere.is_match(text, &mut scratch, &mut steps))
+    let mut found = false;
+    for _ in 0..times {
+        found = ere.is_match(text, &mut scratch, &mut steps);
+    }
+    Ok(found)
 }
 
 fn answer(alloc: Global, line: &str) -> Result<bool, EreFault> {
-    let (expression, text) = line.split_once('\t').unwrap_or((line, ""));
+    let (expression, rest) = line.split_once('\t').unwrap_or((line, ""));
+    let (text, times) = rest.split_once('\t').unwrap_or((rest, "1"));
+    let times = times.parse::<u32>().unwrap_or(1);
     let blank = Blank::new(1);
-    match_with::<Brand>(alloc, blank, expression.as_bytes(), text.as_bytes())
+    match_with::<Brand>(alloc, blank, expression.as_bytes(), text.as_bytes(), times)
 }
 
 fn main(rt: HostRuntime) -> io::Result<()> {

@@ -2,7 +2,7 @@
 use Rattle.std.proofs.Common.{◌≡◌, ℕ, zero, suc, ◌+◌, ◌-◌, ◌≤◌, ◌<◌, min, List, [], ◌∷◌, ◌++◌, Bool, true, false, nat_eq, Ok, Err, refl, sym, ap, ◌∙◌, arith, length, drop, slice_index, append_assoc, eq-eqb}
 use Rattle.std.proofs.lemmas.List.{append-nil, drop-drop, drop_min, length-drop}
 use Rattle.std.proofs.lemmas.Bool.{ne_eqb}
-use Rattle.usp_ere.specs.declared.tree.Element.{Element}
+use Rattle.usp_ere.specs.declared.class.Element.{Element}
 use Rattle.usp_ere.specs.declared.fault.EreFault.{EreFault}
 use Rattle.usp_ere.specs.declared.fault.EreFault.TheVariants.{Syntax}
 use Rattle.usp_ere.specs.SetText.{InSet, ending, element, wrong, in_set, is_range, Elements, with_front, behind, elements_from, elements_at}

@@ -1,8 +1,8 @@
 -- The faults of a text have places, and come where no expression is spelled.
 use Rattle.std.proofs.Common.{◌≡◌, ℕ, zero, suc, ◌+◌, ◌-◌, List, [], ◌∷◌, Bool, true, false, ◌&&◌, not, nat_eq, nat_lt, if◌then◌else◌, codes, Option, Some, None, Result, Ok, Err, refl, sym, ap, ◌∙◌, subst, length, drop, map}
-use Rattle.usp_ere.specs.declared.tree.Class.{Class}
-use Rattle.usp_ere.specs.declared.tree.Element.{Element}
-use Rattle.usp_ere.specs.declared.tree.Element.TheVariants.{One, Range, Named}
+use Rattle.usp_ere.specs.declared.class.Class.{Class}
+use Rattle.usp_ere.specs.declared.class.Element.{Element}
+use Rattle.usp_ere.specs.declared.class.Element.TheVariants.{One, Range, Named}
 use Rattle.usp_ere.specs.declared.fault.EreFault.{EreFault}
 use Rattle.usp_ere.specs.declared.fault.EreFault.TheVariants.{Syntax, Undefined, Repeat, TooLarge, NoMemory}
 use Rattle.usp_ere.specs.Expression.{Expr, byte, any, at_begin, at_end}

@@ -12,3 +12,14 @@ pub mod ReaderLemmas
 pub mod SizeLemmas
 pub mod FaultLemmas
 pub mod CompileLemmas
+pub mod ByteLemmas
+pub mod NodeLemmas
+pub mod EmitLemmas
+pub mod NodeSetLemmas
+pub mod BelowLemmas
+pub mod OrderLemmas
+pub mod NodesFind
+pub mod WalkLemmas
+pub mod AloneLemmas
+pub mod StartLemmas
+pub mod PlanLemmas

@@ -1,7 +1,9 @@
 -- The fault of a text that is no expression: the one of the first place.
 use Rattle.std.specs.Prelude.{ℕ, zero, suc, List, [], ◌∷◌, Bool, true, false, nat_le, ◌&&◌, not, if◌then◌else◌, Option, Some, None, Result, Ok, Err, length, position}
+use Rattle.usp_ere.specs.Letters.{space, tilde}
 use Rattle.usp_ere.specs.declared.fault.EreFault.{EreFault}
 use Rattle.usp_ere.specs.declared.fault.EreFault.TheVariants.{Syntax, Undefined, Repeat}
+use Rattle.usp_ere.specs.declared.limits.TheConstants.{MAX_COUNT}
 use Rattle.usp_ere.specs.Sets.{between}
 use Rattle.usp_ere.specs.Tokens.{Token, atom, anchor, times, brace, opening, closing, bar, bad, Placed, tokens_of}
 
@@ -11,10 +13,10 @@ pub data Before : Type 0 where
   repeatable : Before
   settled : Before
 
--- the counts of a repeat are in order, and at most 255
+-- the counts of a repeat are in order, and at most the limit
 abbrev pub are_counts : ℕ → Option ℕ → Bool
-are_counts least None = nat_le least 255
-are_counts least (Some most) = nat_le least most && nat_le most 255
+are_counts least None = nat_le least MAX_COUNT
+are_counts least (Some most) = nat_le least most && nat_le most MAX_COUNT
 
 -- what stands before the next place, and how many groups are open there
 abbrev pub Standing : Type 0
@@ -63,7 +65,7 @@ fault_in before groups end (p ∷ ps) =
 
 -- the place of the first byte from outside 0x20 to 0x7e
 abbrev pub first_odd : List ℕ → Option ℕ
-first_odd text = position (λ c. not (between 32 126 c)) text
+first_odd text = position (λ c. not (between space tilde c)) text
 
 abbrev pub place_of : EreFault → ℕ
 place_of (Syntax at) = at

@@ -1,3 +1,4 @@
+pub mod Letters
 pub mod Sets
 pub mod Expression
 pub mod Shape
@@ -8,6 +9,16 @@ pub mod Faults
 pub mod Grammar
 pub mod Compiled
 pub mod Places
+pub mod Bits
+pub mod Bytes
+pub mod Nodes
+pub mod Built
+pub mod Kept
+pub mod NodeSets
+pub mod Starts
+pub mod Walk
+pub mod Alone
+pub mod Plans
 pub mod Reading
 pub mod Lines
 pub mod Parts

@@ -1,6 +1,7 @@
 -- The expression of a list of tokens, read in one pass with the open groups on a stack. Proved to be what the
 -- grammar says; no public clause cites it.
 use Rattle.std.specs.Prelude.{ℕ, List, [], ◌∷◌, ◌++◌, Bool, true, false, Option, Some, None}
+use Rattle.usp_ere.specs.Letters.{right_parenthesis}
 use Rattle.usp_ere.specs.Expression.{Expr, byte, both, either, repeat}
 use Rattle.usp_ere.specs.Tokens.{Token, atom, anchor, times, brace, opening, closing, bar, bad}
 use Rattle.usp_ere.specs.Faults.{Before, nothing, repeatable, settled, are_counts}
@@ -69,7 +70,8 @@ pub data State : Type 0 where
   state : (now : Line) (around : List Line) → State
 
 abbrev pub repeat_last : Bool → Option Expr → List Expr → Expr → ℕ → Option ℕ → List Line → Option State
-repeat_last true branches pieces e least most around = Some (state (line branches pieces (done_piece (repeat e least most))) around)
+repeat_last true branches pieces e least most around =
+    Some (state (line branches pieces (done_piece (repeat e least most))) around)
 repeat_last false branches pieces e least most around = None
 
 abbrev pub close_group : Option Expr → List Line → Option State
@@ -84,11 +86,12 @@ next_branch (Some e) around = Some (state (fresh (Some e)) around)
 abbrev pub step : State → Token → Option State
 step (state l around) (atom e bytes) = Some (state (pushed l e) around)
 step (state l around) (anchor e) = Some (state (push l (done_piece e)) around)
-step (state (line branches pieces (open_piece e)) around) (times least most bytes) = repeat_last (are_counts least most) branches pieces e least most around
+step (state (line branches pieces (open_piece e)) around) (times least most bytes) =
+    repeat_last (are_counts least most) branches pieces e least most around
 step (state l around) (times least most bytes) = None
 step (state l around) brace = None
 step (state l around) opening = Some (state (fresh None) (l ∷ around))
-step (state l []) closing = Some (state (pushed l (byte 41)) [])
+step (state l []) closing = Some (state (pushed l (byte right_parenthesis)) [])
 step (state l (m ∷ around)) closing = close_group (list_of l) (m ∷ around)
 step (state l around) bar = next_branch (list_of l) around
 step (state l around) (bad f) = None

@@ -1,10 +1,11 @@
 -- How a set is read, from the left, behind its `[` and, where it is negated, its `^`.
 use Rattle.std.specs.Prelude.{ℕ, zero, suc, ◌+◌, ◌-◌, List, [], ◌∷◌, Bool, true, false, nat_eq, nat_lt, ◌&&◌, ◌||◌, not, if◌then◌else◌, Option, Some, None, Result, Ok, Err, codes, length, drop}
 use Rattle.std.specs.List.{starts_with, find}
-use Rattle.usp_ere.specs.declared.tree.Class.{Class}
-use Rattle.usp_ere.specs.declared.tree.Class.TheVariants.{Alpha, Digit, Alnum, Upper, Lower, Space, Blank, Punct, Print, Graph, Cntrl, Xdigit}
-use Rattle.usp_ere.specs.declared.tree.Element.{Element}
-use Rattle.usp_ere.specs.declared.tree.Element.TheVariants.{One, Range, Named}
+use Rattle.usp_ere.specs.Letters.{hyphen, left_square_bracket, right_square_bracket}
+use Rattle.usp_ere.specs.declared.class.Class.{Class}
+use Rattle.usp_ere.specs.declared.class.Class.TheVariants.{Alpha, Digit, Alnum, Upper, Lower, Space, Blank, Punct, Print, Graph, Cntrl, Xdigit}
+use Rattle.usp_ere.specs.declared.class.Element.{Element}
+use Rattle.usp_ere.specs.declared.class.Element.TheVariants.{One, Range, Named}
 use Rattle.usp_ere.specs.declared.fault.EreFault.{EreFault}
 use Rattle.usp_ere.specs.declared.fault.EreFault.TheVariants.{Syntax, Undefined}
 
@@ -52,24 +53,25 @@ is_collating t = begins t (codes ".") || begins t (codes "=")
 abbrev pub range_at : (at c : ℕ) → List ℕ → InSet
 range_at at c [] = wrong (Syntax at)
 range_at at c (d ∷ t) =
-    if nat_eq d 91 && is_collating t then wrong (Undefined (at + 2)) else
-    if nat_eq d 91 && begins t (codes ":") then wrong (Syntax at) else
+    if nat_eq d left_square_bracket && is_collating t then wrong (Undefined (at + 2)) else
+    if nat_eq d left_square_bracket && begins t (codes ":") then wrong (Syntax at) else
     if nat_lt d c then wrong (Syntax at) else element (Range c d) 3
 
 -- a class at a place, at the front of t: no range begins with it
 abbrev pub named_at : (at : ℕ) → Option Class → List ℕ → InSet
 named_at at None t = wrong (Syntax at)
 named_at at (Some class) t =
-    if makes_range (drop (length (text_of class)) t) then wrong (Syntax at) else element (Named class) (length (text_of class))
+    if makes_range (drop (length (text_of class)) t) then wrong (Syntax at)
+    else element (Named class) (length (text_of class))
 
 -- what stands at a place in a set, c with t behind it: whether it is the first place, and whether a range
 -- stands before it
 abbrev pub in_set : (first ranged : Bool) → (at c : ℕ) → List ℕ → InSet
 in_set first ranged at c t =
-    if nat_eq c 93 && not first then ending else
-    if nat_eq c 45 && (ranged && not (begins t (codes "]"))) then wrong (Undefined at) else
-    if nat_eq c 91 && is_collating t then wrong (Undefined at) else
-    if nat_eq c 91 && begins t (codes ":") then named_at at (class_at (c ∷ t)) (c ∷ t) else
+    if nat_eq c right_square_bracket && not first then ending else
+    if nat_eq c hyphen && (ranged && not (begins t (codes "]"))) then wrong (Undefined at) else
+    if nat_eq c left_square_bracket && is_collating t then wrong (Undefined at) else
+    if nat_eq c left_square_bracket && begins t (codes ":") then named_at at (class_at (c ∷ t)) (c ∷ t) else
     if makes_range t then range_at at c (drop 1 t) else element (One c) 1
 
 abbrev pub is_range : Element → Bool

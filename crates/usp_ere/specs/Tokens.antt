@@ -1,5 +1,6 @@
 -- How the text of an expression is cut into tokens, from the left.
 use Rattle.std.specs.Prelude.{ℕ, zero, suc, ◌+◌, ◌-◌, List, [], ◌∷◌, Bool, true, false, nat_eq, ◌||◌, if◌then◌else◌, Option, Some, None, Ok, Err, codes, length, drop}
+use Rattle.usp_ere.specs.Letters.{asterisk, backslash, capital_a, capital_z, circumflex, dollar_sign, left_brace, left_parenthesis, left_square_bracket, period, plus_sign, question_mark, right_parenthesis, small_a, small_z, vertical_line}
 use Rattle.usp_ere.specs.declared.fault.EreFault.{EreFault}
 use Rattle.usp_ere.specs.declared.fault.EreFault.TheVariants.{Undefined}
 use Rattle.usp_ere.specs.Sets.{between}
@@ -34,7 +35,7 @@ set_at at t =
     else set_token at false (elements_at (at + 1) t)
 
 abbrev pub is_letter_or_digit : ℕ → Bool
-is_letter_or_digit c = is_digit c || (between 65 90 c || between 97 122 c)
+is_letter_or_digit c = is_digit c || (between capital_a capital_z c || between small_a small_z c)
 
 -- a `\` at a place, with t behind it: a character that is no letter or digit stands for itself
 abbrev pub escaped : ℕ → List ℕ → Token
@@ -49,22 +50,22 @@ counted left (Some (least, most, rest)) = times least most (1 + (left - length r
 -- what a byte is by itself
 abbrev pub single : ℕ → Token
 single c =
-    if nat_eq c 42 then times 0 None 1 else
-    if nat_eq c 43 then times 1 None 1 else
-    if nat_eq c 63 then times 0 (Some 1) 1 else
-    if nat_eq c 40 then opening else
-    if nat_eq c 41 then closing else
-    if nat_eq c 124 then bar else
-    if nat_eq c 94 then anchor at_begin else
-    if nat_eq c 36 then anchor at_end else
-    if nat_eq c 46 then atom any 1 else atom (byte c) 1
+    if nat_eq c asterisk then times 0 None 1 else
+    if nat_eq c plus_sign then times 1 None 1 else
+    if nat_eq c question_mark then times 0 (Some 1) 1 else
+    if nat_eq c left_parenthesis then opening else
+    if nat_eq c right_parenthesis then closing else
+    if nat_eq c vertical_line then bar else
+    if nat_eq c circumflex then anchor at_begin else
+    if nat_eq c dollar_sign then anchor at_end else
+    if nat_eq c period then atom any 1 else atom (byte c) 1
 
 -- the token at a place that begins with c, with t behind it
 abbrev pub token_at : (at c : ℕ) → List ℕ → Token
 token_at at c t =
-    if nat_eq c 92 then escaped at t else
-    if nat_eq c 91 then set_at at t else
-    if nat_eq c 123 then counted (length t) (counts_at t) else single c
+    if nat_eq c backslash then escaped at t else
+    if nat_eq c left_square_bracket then set_at at t else
+    if nat_eq c left_brace then counted (length t) (counts_at t) else single c
 
 abbrev pub bytes_of : Token → ℕ
 bytes_of (atom e bytes) = bytes

@@ -1,3 +1,4 @@
+//! The calls that make what a match needs.
 ghost use Rattle.std.specs.Prelude.{◌≡◌, ℕ, List, IfOk, IfErr, Some, None};
 ghost use Rattle.usp_ere.specs.Compiled.{Compiles, IsRefusedFor, expression_of};
 ghost use Rattle.usp_ere.specs.Expression.{Expr, size_of};
@@ -9,11 +10,27 @@ use crate::fault::EreFault;
 use crate::reader::read;
 use crate::room::Scratch;
 use crate::set::is_between;
-use std::alloc::Global;
+use std::alloc::{AllocError, Global};
+use std::error::Error;
+use std::fmt;
 
-/// Memory ran out.
+/// There was no memory.
 #[derive(Clone, Copy, Debug, PartialEq, Eq)]
 pub struct NoMemory;
+
+impl fmt::Display for NoMemory {
+    fn fmt<W: fmt::Write>(&self, f: &mut fmt::Formatter<W>) -> fmt::Result {
+        write!(f, "out of memory: try again with more")
+    }
+}
+
+impl Error for NoMemory {}
+
+impl From<AllocError> for NoMemory {
+    fn from(_: AllocError) -> NoMemory {
+        NoMemory
+    }
+}
 
 /// The place of the first byte that is no printable ASCII character.
 fn first_odd(text: &[u8]) -> Option<usize>
@@ -36,7 +53,7 @@ fn first_of_both(fault: EreFault, odd: Option<usize>) -> EreFault
 /// section 9.4) over the bytes 0x20 to 0x7e, whose undefined forms are refused. The recursion over an
 /// expression is as deep as its longest branch or its nested repeats, so at most as deep as the text is long.
 pub fn compile(alloc: Global, text: &[u8]) -> Result<Ere, EreFault>
-    // It spells the text, and has at most 4,000 nodes.
+    // It spells the text, and has at most `MAX_SIZE` nodes.
     ensures accepted { IfOk result (λ ere. Compiles text.now (expression_of ere)) }
     // The fault is that of the first place, and TooLarge only where there is none. Want of memory is free.
     ensures refused { IfErr result (λ fault. IsRefusedFor text.now fault) }
@@ -49,14 +66,14 @@ pub fn compile(alloc: Global, text: &[u8]) -> Result<Ere, EreFault>
     if let Some(at) = odd {
         return Err(EreFault::Undefined { at });
     }
-    Ere::of(tree).ok_or(EreFault::TooLarge)
+    Ere::of(alloc, tree)
 }
 
 /// What a match of the expression needs.
-pub fn scratch(_alloc: Global, ere: &Ere) -> Result<Scratch, NoMemory>
+pub fn scratch(alloc: Global, ere: &Ere) -> Result<Scratch, NoMemory>
     ensures { IfOk result (λ scratch. scratch ≡ size_of (expression_of ere.now)) }
 {
-    Ok(Scratch::for_size(ere.size()))
+    Ok(Scratch::for_size(alloc, ere.size())?)
 }
 
 /// A text spells one expression at most.

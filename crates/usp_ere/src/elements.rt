@@ -4,9 +4,9 @@ ghost use Rattle.std.specs.List.{find};
 ghost use Rattle.usp_ere.specs.SetText.{begins, text_of, class_at, is_collating, makes_range, named_at, range_at, in_set, is_range, elements_at};
 ghost use Rattle.usp_ere.specs.Parts.{part_of, IsSetFault};
 
+use crate::class::{Class, Element};
 use crate::fault::EreFault;
 use crate::place::{place_behind, skip};
-use crate::tree::{Class, Element};
 use std::alloc::Global;
 
 /// What stands at a place in a set: its end, an element of so many bytes, or a fault.

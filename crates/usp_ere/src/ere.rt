@@ -1,40 +1,36 @@
-ghost use Rattle.std.specs.Prelude.{◌≡◌};
-ghost use Rattle.usp_ere.specs.Expression.{size_of};
-ghost use Rattle.usp_ere.specs.Shape.{expr_of};
-
-use crate::plain::finds;
+//! A compiled expression.
+use crate::fault::EreFault;
+use crate::limits::MAX_SIZE;
+use crate::program::Program;
 use crate::room::Scratch;
-use crate::size::{TOO_MANY, nodes_up_to};
 use crate::tree::Tree;
+use std::alloc::Global;
 use std::sync::ledger::Ledger;
 use usp_base::Steps;
 
-/// A compiled expression.
+/// A compiled expression. Contracts see its `expression_of`.
 #[derive(Drop)]
 pub struct Ere {
-    tree: Tree,
-    size: usize,
-    ghost counted: { size ≡ size_of (expr_of tree) },
+    program: Program,
 }
 
 impl Ere {
-    ghost use Rattle.std.specs.Prelude.{◌≤◌, ◌<◌, ◌↔◌, IfNone, IfSome, IsTrue};
-    ghost use Rattle.usp_ere.specs.Expression.{Finds};
+    ghost use Rattle.usp_ere.specs.Shape.{expr_of};
+    ghost use Rattle.std.specs.Prelude.{◌≡◌, ◌≤◌, ◌<◌, ◌+◌, ◌*◌, ◌↔◌, IfOk, IfErr, IsTrue, length};
+    ghost use Rattle.usp_ere.specs.Built.{IsUnbuiltFor};
     ghost use Rattle.usp_ere.specs.Compiled.{expression_of};
+    ghost use Rattle.usp_ere.specs.Expression.{Finds, size_of};
+    ghost use Rattle.usp_ere.specs.Nodes.{IsInOrder};
 
-    /// The compiled tree, unless it has more than 4,000 nodes.
-    pub(crate) fn of(tree: Tree) -> Option<Ere>
-        ensures some { IfSome result (λ ere. expression_of ere ≡ expr_of tree) }
-        ensures small { IfSome result (λ ere. size_of (expr_of tree) ≤ 4000) }
-        ensures none { IfNone result (4000 < size_of (expr_of tree)) }
+    /// The compiled tree, unless it has more than `MAX_SIZE` nodes.
+    pub(crate) fn of(alloc: Global, tree: Tree) -> Result<Ere, EreFault>
+        requires { IsInOrder (expr_of tree) }
+        ensures same { IfOk result (λ ere. expression_of ere ≡ expr_of tree) }
+        ensures small { IfOk result (λ ere. size_of (expr_of tree) ≤ MAX_SIZE) }
+        ensures large { IfErr result (λ fault. IsUnbuiltFor (expr_of tree) fault) }
     {
-        let nodes = nodes_up_to(&tree);
-        if nodes == TOO_MANY {
-            return None;
-        }
-        Some(Ere {
-            tree,
-            size: nodes + 1,
+        Ok(Ere {
+            program: Program::of(alloc, tree)?,
         })
     }
 
@@ -42,21 +38,23 @@ impl Ere {
     pub fn size(&self) -> usize
         ensures { result ≡ size_of (expression_of self.now) }
     {
-        self.size
+        self.program.len()
     }
 
-    /// Whether some part of the text is in the expression.
+    /// Whether some part of the text is in the expression. A step is the entering of one node at one place.
     pub fn is_match<L: Ledger>(
         &self,
         text: &[u8],
-        _scratch: &mut Scratch,
-        _steps: &mut Steps<L>,
+        scratch: &mut Scratch,
+        steps: &mut Steps<L>,
     ) -> bool
-        requires room { size_of (expression_of self.now) ≤ _scratch.old }
+        requires room { size_of (expression_of self.now) ≤ scratch.old }
         ensures found { IsTrue result ↔ Finds (expression_of self.now) text.now }
-        ensures room { _scratch.new ≡ _scratch.old }
-        ensures steps { _steps.new ≡ _steps.old }
+        ensures room { scratch.new ≡ scratch.old }
+        ensures rises { steps.old ≤ steps.new }
+        ensures bound { steps.new ≤ steps.old + (length text.now + 1) * size_of (expression_of self.now) }
     {
-        finds(&self.tree, text)
+        self.program
+            .finds(text, &mut scratch.now, &mut scratch.next, steps)
     }
 }

@@ -4,6 +4,7 @@ ghost use Rattle.usp_ere.specs.Faults.{are_counts};
 ghost use Rattle.usp_ere.specs.Marks.{StepsTo, IsFaultOf};
 
 use crate::fault::EreFault;
+use crate::limits::MAX_COUNT;
 use crate::line::{Last, Line, finish_list, fresh_line, push_piece};
 use crate::tokens::Mark;
 use crate::tree::Tree;
@@ -17,13 +18,13 @@ pub struct State {
     pub around: Vec<Line>,
 }
 
-/// Whether the counts are in order and at most 255.
+/// Whether the counts are in order and at most `MAX_COUNT`.
 fn counts(least: u16, most: Option<u16>) -> bool
     ensures { result ≡ are_counts least most }
 {
     match most {
-        None => least <= 255,
-        Some(most) => least <= most && most <= 255,
+        None => least <= MAX_COUNT,
+        Some(most) => least <= most && most <= MAX_COUNT,
     }
 }
 

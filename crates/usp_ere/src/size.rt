@@ -3,16 +3,14 @@ ghost use Rattle.std.specs.Prelude.{◌≡◌, ◌≤◌, min};
 ghost use Rattle.usp_ere.specs.Expression.{nodes_of, size_of_repeat};
 ghost use Rattle.usp_ere.specs.Shape.{expr_of};
 
+use crate::limits::MAX_SIZE;
 use crate::tree::Tree;
 
-/// No expression has as many nodes as this, beside the one that accepts.
-pub const TOO_MANY: usize = 4000;
-
-/// The nodes of a repeat over a piece of so many nodes, counted up to `TOO_MANY`.
+/// The nodes of a repeat over a piece of so many nodes, counted up to `MAX_SIZE`.
 #[tactic(auto, using(crate::proofs::SizeLemmas::least_product, crate::proofs::SizeLemmas::more_product))]
 fn repeat_nodes(nodes: usize, least: u8, most: Option<u8>) -> usize
-    requires { nodes ≤ 4000 }
-    ensures { result ≡ min 4000 (size_of_repeat nodes least most) }
+    requires { nodes ≤ MAX_SIZE }
+    ensures { result ≡ min MAX_SIZE (size_of_repeat nodes least most) }
 {
     let least = usize::from(least);
     let needed = least * nodes;
@@ -20,17 +18,17 @@ fn repeat_nodes(nodes: usize, least: u8, most: Option<u8>) -> usize
         None => nodes + 1,
         Some(most) => usize::from(most).saturating_sub(least) * (nodes + 1),
     };
-    (needed + more).min(TOO_MANY)
+    (needed + more).min(MAX_SIZE)
 }
 
-/// The nodes of the tree, counted up to `TOO_MANY`: a sum may pass every number.
+/// The nodes of the tree, counted up to `MAX_SIZE`: a sum may pass every number.
 #[cycle(size)]
 pub fn nodes_up_to(tree: &Tree) -> usize
-    ensures { result ≡ min 4000 (nodes_of (expr_of tree.now)) }
+    ensures { result ≡ min MAX_SIZE (nodes_of (expr_of tree.now)) }
 {
     match tree {
-        Tree::Both(x, y) => (nodes_up_to(x) + nodes_up_to(y)).min(TOO_MANY),
-        Tree::Either(x, y) => (nodes_up_to(x) + nodes_up_to(y) + 1).min(TOO_MANY),
+        Tree::Both(x, y) => (nodes_up_to(x) + nodes_up_to(y)).min(MAX_SIZE),
+        Tree::Either(x, y) => (nodes_up_to(x) + nodes_up_to(y) + 1).min(MAX_SIZE),
         Tree::Repeat(x, least, most) => repeat_nodes(nodes_up_to(x), *least, *most),
         _ => 1,
     }

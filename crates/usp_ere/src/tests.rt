@@ -33,7 +33,7 @@ fn found(alloc: Global, expression: &str, text: &str) -> Result<bool, EreFault> 
 }
 
 // An expression, a text, and whether the expression finds a part of it.
-const MATCHES: [(&str, &str, bool); 111] = [
+const MATCHES: [(&str, &str, bool); 151] = [
     ("^a|b$", "xb", true),
     ("^a|b$", "ax", true),
     ("^a|b$", "xax", false),
@@ -125,6 +125,46 @@ const MATCHES: [(&str, &str, bool); 111] = [
     ("(^a)", "ab", true),
     ("(a$)|b", "xb", true),
     ("(^a|b)*c$", "abbc", true),
+    ("(^a|b)*c$", "abcd", false),
+    ("(^a|b)*c$", "xabc", true),
+    ("(^a|b){2}c$", "xabc", false),
+    ("^abc", "abcx", true),
+    ("^abc", "abx", false),
+    ("^abc", "ab", false),
+    ("^abc", "xabc", false),
+    ("^abc$", "abc", true),
+    ("^abc$", "abcd", false),
+    ("^^ab", "ab", true),
+    ("^^ab", "xab", false),
+    ("^ab*c", "ac", true),
+    ("^ab*c", "xac", false),
+    ("^", "", true),
+    ("^", "x", true),
+    ("(^a|^b)c", "bc", true),
+    ("(^a|^b)c", "xbc", false),
+    ("$", "ab", true),
+    ("b|$", "a", true),
+    ("b$|c", "xb", true),
+    ("b$|c", "bx", false),
+    ("[.]ts$", "a.ts.ts", true),
+    ("[.]ts$", "a.ts.tsx", false),
+    ("ab", "aab", true),
+    ("aab", "aaab", true),
+    ("a?ab", "xaab", true),
+    ("(a|b$)c?", "xb", true),
+    ("(a{0}){2}b", "b", true),
+    ("(a{0})*b", "xb", true),
+    ("(^){2}b", "b", true),
+    ("(^)*b", "xb", true),
+    ("(^a)*b", "xb", true),
+    ("(a$)*", "", true),
+    ("x(a$)*y", "xy", true),
+    ("x(a|$)*", "xa", true),
+    ("^x(a|$){2}$", "xa", true),
+    ("^x(a|$){2}$", "xaa", true),
+    ("^x(a|$){2}$", "xaaa", false),
+    ("^x(a|^){2}$", "xa", false),
+    ("^(a|^){2}b$", "ab", true),
     ("(^a|b)c$", "xac", false),
     ("^$", "", true),
     ("^$", "a", false),
@@ -329,5 +369,144 @@ fn answers_for_long_texts(rt: HostRuntime) -> Result<(), Fail> {
     assert_eq!(rt; compile(rt.alloc(), &repeats)?.size(), 2732);
     let empty = nested(rt.alloc(), "a{0}", "", "", 2048)?;
     assert_eq!(rt; compile(rt.alloc(), &empty)?.size(), 1);
+    Ok(())
+}
+
+// A class, and the first and the last byte of a run of its bytes (POSIX, Base Definitions, section 7.3.1).
+const RUNS: [(&str, u8, u8); 25] = [
+    ("[[:alpha:]]", b'A', b'Z'),
+    ("[[:alpha:]]", b'a', b'z'),
+    ("[[:digit:]]", b'0', b'9'),
+    ("[[:alnum:]]", b'0', b'9'),
+    ("[[:alnum:]]", b'A', b'Z'),
+    ("[[:alnum:]]", b'a', b'z'),
+    ("[[:upper:]]", b'A', b'Z'),
+    ("[[:lower:]]", b'a', b'z'),
+    ("[[:space:]]", b'\t', b'\r'),
+    ("[[:space:]]", b' ', b' '),
+    ("[[:blank:]]", b'\t', b'\t'),
+    ("[[:blank:]]", b' ', b' '),
+    ("[[:punct:]]", b'!', b'/'),
+    ("[[:punct:]]", b':', b'@'),
+    ("[[:punct:]]", b'[', b'`'),
+    ("[[:punct:]]", b'{', b'~'),
+    ("[[:print:]]", b' ', b'~'),
+    ("[[:graph:]]", b'!', b'~'),
+    ("[[:cntrl:]]", 0, 0x1f),
+    ("[[:cntrl:]]", 0x7f, 0x7f),
+    ("[[:xdigit:]]", b'0', b'9'),
+    ("[[:xdigit:]]", b'A', b'F'),
+    ("[[:xdigit:]]", b'a', b'f'),
+    ("[a-c]", b'a', b'c'),
+    ("[^ -~]", 0x7f, 0xff),
+];
+
+// Whether the expression finds the byte.
+fn found_byte(alloc: Global, expression: &str, byte: u8) -> Result<bool, EreFault> {
+    let blank = Blank::new(1);
+    match_with::<Brand>(alloc, blank, expression.as_bytes(), &[byte])
+}
+
+// The first run with a byte at its bounds, or beside them, that is not found as it should be.
+fn wrong_run(alloc: Global, runs: &[(&str, u8, u8)]) -> Option<usize> {
+    for (i, (class, first, last)) in runs.iter().enumerate() {
+        let held = found_byte(alloc, class, *first) == Ok(true)
+            && found_byte(alloc, class, *last) == Ok(true);
+        let below = match first.checked_sub(1) {
+            Some(byte) => found_byte(alloc, class, byte) == Ok(false),
+            None => true,
+        };
+        let above = match last.checked_add(1) {
+            Some(byte) => found_byte(alloc, class, byte) == Ok(false),
+            None => true,
+        };
+        if !(held && below && above) {
+            return Some(i);
+        }
+    }
+    None
+}
+
+#[test]
+fn holds_the_bytes_of_a_class_up_to_its_bounds(rt: HostRuntime) -> Result<(), Fail> {
+    assert_eq!(rt; wrong_run(rt.alloc(), &RUNS), None);
+    Ok(())
+}
+
+// Whether the expression finds a part of the text, and how many steps that takes at most.
+fn match_and_most<L: Ledger>(
+    alloc: Global,
+    blank: Blank,
+    expression: &str,
+    text: &[u8],
+) -> Result<(bool, usize), EreFault>
+    requires name { blank.name ≡ L.name }
+    requires parts { blank.parts ≡ L.parts }
+    requires some { 0 < blank.parts }
+{
+    let ere = compile(alloc, expression.as_bytes())?;
+    let Ok(mut scratch) = scratch(alloc, &ere) else {
+        return Err(EreFault::NoMemory);
+    };
+    let mut steps = Steps::<L>::new(blank);
+    let found = ere.is_match(text, &mut scratch, &mut steps);
+    Ok((
+        found,
+        text.len().saturating_add(1).saturating_mul(ere.size()),
+    ))
+}
+
+fn found_and_most(alloc: Global, expression: &str, text: &[u8]) -> Result<(bool, usize), EreFault> {
+    let blank = Blank::new(1);
+    match_and_most::<Brand>(alloc, blank, expression, text)
+}
+
+// The expressions that are known to make a search by trying slow.
+#[test]
+fn takes_a_bounded_number_of_steps(rt: HostRuntime) -> Result<(), Fail> {
+    let letters = nested(rt.alloc(), "a", "", "", 5000)?;
+    assert_eq!(rt;
+        found_and_most(rt.alloc(), "(a*)*b", &letters),
+        Ok((false, 25_005))
+    );
+    let ended = nested(rt.alloc(), "a", "b", "", 5000)?;
+    assert_eq!(rt;
+        found_and_most(rt.alloc(), "(a*)*b", &ended),
+        Ok((true, 25_010))
+    );
+    let long = nested(rt.alloc(), "a", "", "", 8192)?;
+    assert_eq!(rt;
+        found_and_most(rt.alloc(), "((a?){200}){9}(a?){199}b", &long),
+        Ok((false, 32_772_000))
+    );
+    assert_eq!(rt;
+        found_and_most(rt.alloc(), "((a?){200}){9}(a?){199}bb", &long),
+        Err(EreFault::TooLarge)
+    );
+    Ok(())
+}
+
+// The example of the crate's first page.
+fn example<L: Ledger>(alloc: Global, blank: Blank) -> Result<bool, Fail>
+    requires name { blank.name ≡ L.name }
+    requires parts { blank.parts ≡ L.parts }
+    requires some { 0 < blank.parts }
+{
+    let ere = compile(alloc, b"^https://[ab][.]example/")?;
+    let mut room = scratch(alloc, &ere)?;
+    let mut steps = Steps::<L>::new(blank);
+    Ok(ere.is_match(b"https://a.example/v", &mut room, &mut steps))
+}
+
+#[test]
+fn matches_as_on_the_first_page(rt: HostRuntime) -> Result<(), Fail> {
+    let blank = Blank::new(1);
+    assert!(rt; example::<Brand>(rt.alloc(), blank)?);
+    Ok(())
+}
+
+#[test]
+fn knows_want_of_memory(rt: HostRuntime) -> Result<(), Fail> {
+    assert!(rt; EreFault::NoMemory.is_memory() && !EreFault::TooLarge.is_memory());
     Ok(())
 }

@@ -1,16 +1,18 @@
 //! The token at a place of the text.
 ghost use Rattle.std.specs.Prelude.{◌≡◌, ◌||◌, ◌+◌, ◌≤◌, ◌<◌, drop, length, slice_index, IfOk};
 ghost use Rattle.usp_ere.specs.CountText.{counts_at};
+ghost use Rattle.usp_ere.specs.Letters.{capital_a, capital_z, small_a, small_z};
 ghost use Rattle.usp_ere.specs.Marks.{mark_of};
 ghost use Rattle.usp_ere.specs.SetText.{elements_at};
 ghost use Rattle.usp_ere.specs.Sets.{between};
 ghost use Rattle.usp_ere.specs.Tokens.{bytes_of, counted, escaped, is_letter_or_digit, set_at, set_token, single, token_at};
 
+use crate::bytes::ByteSet;
 use crate::counts::{counts, is_digit};
 use crate::elements::elements;
 use crate::fault::EreFault;
 use crate::place::skip;
-use crate::set::is_between;
+use crate::set::{is_lower, is_upper};
 use crate::tree::{Set, Tree};
 use std::alloc::{AllocError, Global};
 use usp_base::Rows;
@@ -39,10 +41,11 @@ impl Mark {
     }
 }
 
+/// Whether the byte is a letter.
 fn is_letter(byte: u8) -> bool
-    ensures { result ≡ (between 65 90 byte || between 97 122 byte) }
+    ensures { result ≡ (between capital_a capital_z byte || between small_a small_z byte) }
 {
-    is_between(b'A', b'Z', byte) || is_between(b'a', b'z', byte)
+    is_upper(byte) || is_lower(byte)
 }
 
 /// A `\` at a place, with the text behind it.
@@ -105,6 +108,7 @@ fn set_from(
         Ok((elements, end)) => {
             let set = Set {
                 negated,
+                bytes: ByteSet::of(negated, &elements),
                 elements: Rows::of(elements),
             };
             Ok(Mark::Atom(Tree::OneOf(set), end.saturating_sub(at)))
