@@ -165,3 +165,16 @@ pub turned_stands : (table later final : Table) (history : List Call) (nonce : N
 turned_stands table later final history nonce now until moment answer is_later at answered is_final before =
     rw (is_final ∙ ap (λ t. table_after t nonce until answer) is_later) (rw (at ∙ ap (λ (t : Table). t.moment) is_later)
     (stands table history nonce now until answer (answered ∙ ap (λ t. table_answer t nonce until) is_later) before))
+
+-- what an answer leaves of a table
+pub after_calls : (table : Table) (nonce : Nonce) (until : ℕ) (answer : Answer) → (table_after table nonce until answer).calls ≡ table.calls
+after_calls table nonce until Late = refl
+after_calls table nonce until Seen = refl
+after_calls table nonce until Full = refl
+after_calls table nonce until Taken = refl
+
+pub after_room : (table : Table) (nonce : Nonce) (until : ℕ) (answer : Answer) → (table_after table nonce until answer).room ≡ table.room
+after_room table nonce until Late = refl
+after_room table nonce until Seen = refl
+after_room table nonce until Full = refl
+after_room table nonce until Taken = refl

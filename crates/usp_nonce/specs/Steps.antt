@@ -1,10 +1,13 @@
 -- The parts of one call of a nonce table, on what contracts see of it.
-use Rattle.std.specs.Prelude.{ℕ, ◌+◌, max, nat_le, [], ◌∷◌, ◌++◌, length, filter, if◌then◌else◌}
+use Rattle.std.specs.Prelude.{◌≡◌, ℕ, ◌+◌, List, max, nat_le, [], ◌∷◌, ◌++◌, length, filter, if◌then◌else◌}
 use Rattle.std.specs.List.{list_any}
 use Rattle.usp_nonce.specs.Nonces.{Nonce, is_same_nonce}
+use Rattle.usp_nonce.specs.History.{Call, IsLegal, IsNext}
+use Rattle.usp_nonce.specs.Stands.{StandsFor, call_of}
 use Rattle.usp_nonce.specs.Table.{Table, is_above}
 use Rattle.usp_nonce.specs.declared.answer.Answer.{Answer}
 use Rattle.usp_nonce.specs.declared.answer.Answer.TheVariants.{Late, Seen, Full, Taken}
+use Rattle.usp_nonce.specs.declared.answer.Turned.{Turned}
 
 -- the table with one more call, at the call's moment, with what is held beyond it
 abbrev pub table_at : Table → ℕ → Table
@@ -31,3 +34,16 @@ table_after table nonce until Taken = table_with table nonce until
 table_after table nonce until Late = table
 table_after table nonce until Seen = table
 table_after table nonce until Full = table
+
+-- The table answered a call: the answer goes on with each history that the table stood for, and the table stands
+-- for what that makes.
+pub record IsAnswered (before : Table) (nonce : Nonce) (now until : ℕ) (turned : Turned) (after : Table) : Type 0 where
+  pub next : (history : List Call) → StandsFor before history
+      → IsNext before.room history (call_of nonce now until turned)
+  pub legal : (history : List Call) → StandsFor before history → IsLegal before.room history
+      → IsLegal before.room (history ++ call_of nonce now until turned ∷ [])
+  pub stands : (history : List Call) → StandsFor before history
+      → StandsFor after (history ++ call_of nonce now until turned ∷ [])
+  pub place : turned.place ≡ before.calls
+  pub calls : after.calls ≡ before.calls + 1
+  pub room : after.room ≡ before.room

@@ -109,6 +109,7 @@ pub record Closes (terms : Terms) (v : View) (s : Board) : Type 0 where
   pub has : Has terms.table.room table v.seen
   pub legal : IsLegal terms.table.room v.seen
   pub all : AreAllBelow (length v.seen) v.places
+  pub counted : length v.places ≡ length v.seen
 
 pub closes : (terms : Terms) (id : ℕ) (v : View) (s : Board) → Seen (Kept terms) id v s → v.stage ≡ Idle → v.left + length v.places ≡ terms.share → Closes terms v s
 closes terms id v s seen idle whole =
@@ -125,4 +126,7 @@ closes terms id v s seen idle whole =
       has = subst (Has terms.table.room home.0) (sym same) home.2;
       legal = subst (IsLegal terms.table.room) (sym same) k.legal;
       all = subst (λ (l : List Call). AreAllBelow (length l) v.places) (sym same) all;
+      counted =
+          let placed : total_of placed_of (set s.views id spent) + length v.places ≡ total_of placed_of s.views + 0 = sum_at placed_of s.views id v spent seen.1 in
+          omega (arith, placed, one.no_place, k.placed, ap length same);
     }

@@ -1,9 +1,10 @@
 -- A call that is entered has a place of its own.
 use Rattle.std.proofs.Common.{◌≡◌, ℕ, zero, suc, ◌+◌, ◌≤◌, List, [], ◌∷◌, ◌++◌, length, length-append, refl, sym, ap, ◌∙◌, subst, arith}
 use Rattle.std.specs.Prelude.{Some, slice_get}
+use Rattle.std.proofs.lemmas.List.Elements.{All-weaker, All-push, All-append}
 use mathlib.Core.List.{IsPrefix, append_assoc}
 use Rattle.usp_nonce.specs.History.{Call}
-use Rattle.usp_shared.specs.Histories.{IsEntered}
+use Rattle.usp_shared.specs.Histories.{AreAt, IsEntered, Placed}
 use Rattle.usp_shared.specs.Places.{AreDistinctBelow}
 use Rattle.usp_shared.proofs.Counts.{distinct_more}
 
@@ -35,3 +36,21 @@ stays_at [] longer call place there more = absurd (cc there)
 stays_at (x ∷ xs) [] call place there more = absurd (cc (more.1))
 stays_at (x ∷ xs) (y ∷ ys) call zero there more = cc (more.1, there)
 stays_at (x ∷ xs) (y ∷ ys) call (suc place) there more = stays_at xs ys call place there (more.0, cc (more.1))
+
+abbrev Stands : List Call → Placed → Type 0
+Stands history p = slice_get history p.place ≡ Some p.call
+
+-- what stands at its place stays there while the history grows
+pub stay_at : (before after : List Call) (placed : List Placed) → IsPrefix before after → AreAt before placed → AreAt after placed
+stay_at before after placed more all = All-weaker (Stands before) (Stands after) (λ p there. stays_at before after p.call p.place there more) placed all
+
+pub taken_at : (before after : List Call) (placed : List Placed) (call : Call) (place : ℕ) → IsEntered before call place after
+    → AreAt before placed → AreAt after (placed ++ record { call = call; place = place } ∷ [])
+taken_at before after placed call place entered all =
+    let one : Placed = record { call = call; place = place } in
+    All-push (Stands after) placed one (stay_at before after placed (entered_more before after call place entered) all) (entered_at before after call place entered)
+
+pub joined_at : (one other both : List Call) (placed others : List Placed) → IsPrefix one both → IsPrefix other both
+    → AreAt one placed → AreAt other others → AreAt both (placed ++ others)
+joined_at one other both placed others p q all all' =
+    All-append (Stands both) placed others (stay_at one both placed p all) (stay_at other both others q all')

@@ -52,7 +52,8 @@ pub record Knows (log : List Call) (next serving : ℕ) (owner : ℕ → ℕ) (b
   pub told : IsPrefix v.told log
   pub mine : AreDistinctBelow (length v.seen) v.places
   pub waits : 0 < rank v.stage → (serving ≤ v.ticket) × (v.ticket < next) × (owner v.ticket ≡ by)
-  pub turn : 2 ≤ rank v.stage → (v.ticket ≡ serving) × (v.seen ≡ log) × (length log + 2 ≡ serving + rank v.stage) × (busy ≡ true)
+  pub turn : 2 ≤ rank v.stage
+      → (v.ticket ≡ serving) × (v.seen ≡ log) × (length log + 2 ≡ serving + rank v.stage) × (busy ≡ true)
   pub done : rank v.stage ≡ 3 → 0 < length v.places
   pub opened : rank v.stage ≤ 3
 
@@ -92,11 +93,14 @@ pub record Kept (terms : Terms) (s : State (Option Table) View) : Type 0 where
   pub waits : total_of open_of s.views + length log ≡ next
   pub counted : (x : ℕ) → total_of (times_of x) s.views ≡ once_below (length log) x
   pub knows : (by : ℕ) (v : View) → get_elem? s.views by ≡ some v → Knows log next serving owner busy by v
-  pub home : busy ≡ false → (table : Table) × (s.homes ≡ some (Some table) ∷ []) × Has terms.table.room table log × (length log ≡ serving)
-  pub out : busy ≡ true → (s.homes ≡ none ∷ []) × ((u : View) × (get_elem? s.views (owner serving) ≡ some u) × (2 ≤ rank u.stage))
+  pub home : busy ≡ false
+      → (table : Table) × (s.homes ≡ some (Some table) ∷ []) × Has terms.table.room table log × (length log ≡ serving)
+  pub out : busy ≡ true
+      → (s.homes ≡ none ∷ []) × ((u : View) × (get_elem? s.views (owner serving) ≡ some u) × (2 ≤ rank u.stage))
 
 -- The table before it has its nonce table: the slot is empty at home, or out with the first seat
-pub record IsUnfilled (terms : Terms) (stage : Stage) (home : mathlib.Core.Option.Option (Option Table)) (s : State (Option Table) View) : Type 0 where
+pub record IsUnfilled (terms : Terms) (stage : Stage) (home : mathlib.Core.Option.Option (Option Table))
+    (s : State (Option Table) View) : Type 0 where
   pub words : s.words ≡ 0 ∷ 0 ∷ 0 ∷ []
   pub homes : s.homes ≡ home ∷ []
   pub views : s.views ≡ first_view terms stage ∷ []

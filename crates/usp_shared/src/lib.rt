@@ -10,6 +10,7 @@ mod shared;
 #[cfg(test)]
 mod tests;
 mod turn;
+mod waiting;
 
 pub use laws::keeps_each_call_at_its_place;
 pub use seat::Seat;

@@ -9,14 +9,26 @@ ghost use Rattle.usp_shared.specs.Places.{AreAllBelow, AreDistinctBelow};
 use crate::rule::Owned;
 use crate::seat::Seat;
 use crate::turn;
+use crate::turn::Ask;
 use std::alloc::Global;
+use std::error::Error;
+use std::fmt;
 use std::marker::{Brand, Model};
 use std::sync::Wait;
-use usp_nonce::{NonceKey, NonceTable, Turned};
+use std::sync::atomic::AtomicU64;
+use usp_nonce::{MAX_CALLS, MAX_UNTIL, MOMENT_LIMIT, NonceKey, NonceTable, Turned};
 
 /// There is no memory left.
 #[derive(Clone, Copy, Debug, PartialEq, Eq)]
 pub struct NoMemory;
+
+impl fmt::Display for NoMemory {
+    fn fmt<W: fmt::Write>(&self, f: &mut fmt::Formatter<W>) -> fmt::Result {
+        write!(f, "there is no memory left: give the program more")
+    }
+}
+
+impl Error for NoMemory {}
 
 /// One nonce table that many threads share, each through a [`Seat`] of its own. The threads take turns at it, in
 /// the order in which they ask, and all calls stand in one legal history.
@@ -24,6 +36,8 @@ pub struct NoMemory;
 pub struct SharedNonces {
     table: Owned,
     share: u64,
+    // How many threads sleep until a turn passes.
+    asleep: AtomicU64,
 }
 
 impl Model for SharedNonces {
@@ -53,14 +67,19 @@ impl SharedNonces {
         share: u64,
     ) -> Result<(SharedNonces, Seat), (NonceTable, NoMemory)>
         requires fresh { StandsFor table [] }
-        requires share { share < 2 ^ 62 }
+        requires share { share < MAX_CALLS }
         ensures shared { IfOk result (λ made. (made.0.room ≡ table.room) × (made.0.share ≡ share)) }
-        ensures seat { IfOk result (λ made. made.1 ≡ record { table = made.0.table; seen = []; places = []; left = share }) }
+        ensures seat { IfOk result (λ made.
+            made.1 ≡ record { table = made.0.table; seen = []; places = []; left = share }) }
         ensures refused { IfErr result (λ refused. refused.0 ≡ table) }
     {
         match turn::open(alloc, table, share) {
             Ok((table, token)) => Ok((
-                SharedNonces { table, share },
+                SharedNonces {
+                    table,
+                    share,
+                    asleep: AtomicU64::new(0),
+                },
                 Seat {
                     token,
                     left: share,
@@ -128,8 +147,8 @@ impl SharedNonces {
     ) -> Turned
         requires table { seat.old.table ≡ self.now.table }
         requires left { 0 < seat.old.left }
-        requires moment { now < 2 ^ 52 }
-        requires held { until ≤ 2 ^ 53 }
+        requires moment { now < MOMENT_LIMIT }
+        requires held { until ≤ MAX_UNTIL }
         ensures entered { IsEntered seat.old.seen (call_of key now until result) result.place seat.new.seen }
         ensures legal { IsLegal self.now.room seat.new.seen }
         ensures places { seat.new.places ≡ seat.old.places ++ result.place ∷ [] }
@@ -140,10 +159,9 @@ impl SharedNonces {
         let turned = turn::take::<Brand, R>(
             rt,
             &self.table.shared,
+            &self.asleep,
             &mut seat.token,
-            key,
-            now,
-            until,
+            Ask { key, now, until },
         );
         seat.left -= 1;
         seat.used += 1;
@@ -159,8 +177,9 @@ impl SharedNonces {
         ensures room { result.room ≡ self.room }
         ensures legal { IsLegal self.room seat.seen }
         ensures all { AreAllBelow (length seat.seen) seat.places }
+        ensures counted { length seat.places ≡ length seat.seen }
     {
-        let SharedNonces { table, share: _ } = self;
+        let SharedNonces { table, .. } = self;
         turn::close(table, seat.token)
     }
 }

@@ -196,14 +196,54 @@ fn one_of_two_threads_takes_a_nonce(rt: HostRuntime) -> Result<(), Fail> {
     Ok(())
 }
 
+/// Each place below the number of calls was told once. Answers how many calls there were.
+fn each_place_was_told_once(
+    rt: &impl Abort,
+    alloc: Global,
+    callers: &[Caller],
+) -> Result<usize, Fail> {
+    let mut places = Vec::new(alloc);
+    for caller in callers {
+        places.extend_from_slice(&caller.places)?;
+    }
+    places.sort()?;
+    for (i, place) in places.iter().enumerate() {
+        assert_eq!(rt; *place, i as u64);
+    }
+    Ok(places.len())
+}
+
 #[test]
-fn a_thousand_calls_of_four_threads_have_a_place_each(rt: HostRuntime) -> Result<(), Fail> {
+fn two_threads_make_thousands_of_calls(rt: HostRuntime) -> Result<(), Fail> {
     let alloc = rt.alloc();
-    let (nonces, mut a) = share(alloc, 8, 1_000)?;
-    assert!(rt; a.left() >= 750);
-    let b = nonces.split(&mut a, 250)?;
-    let c = nonces.split(&mut a, 250)?;
-    let d = nonces.split(&mut a, 250)?;
+    let (nonces, mut a) = share(alloc, 8, 6_000)?;
+    assert!(rt; a.left() >= 3_000);
+    let b = nonces.split(&mut a, 3_000)?;
+    let mut callers = Vec::from_array(
+        alloc,
+        [
+            Caller::new(alloc, &nonces, a),
+            Caller::new(alloc, &nonces, b),
+        ],
+    )?;
+    thread::for_each_mut(
+        &rt,
+        callers.as_mut_slice(),
+        2,
+        &|_, caller| { caller.ask_often(&rt, alloc, 3_000) },
+    );
+    assert_eq!(rt; each_place_was_told_once(&rt, alloc, &callers)?, 6_000);
+    Ok(())
+}
+
+#[test]
+fn thousands_of_calls_of_four_threads_have_a_place_each(rt: HostRuntime) -> Result<(), Fail> {
+    let alloc = rt.alloc();
+    let (nonces, mut a) = share(alloc, 8, 2_000)?;
+    assert!(rt; a.left() >= 1_500);
+    let b = nonces.split(&mut a, 500)?;
+    let c = nonces.split(&mut a, 500)?;
+    let d = nonces.split(&mut a, 500)?;
     let mut callers = Vec::from_array(
         alloc,
         [
@@ -217,16 +257,8 @@ fn a_thousand_calls_of_four_threads_have_a_place_each(rt: HostRuntime) -> Result
         &rt,
         callers.as_mut_slice(),
         4,
-        &|_, caller| { caller.ask_often(&rt, alloc, 250) },
+        &|_, caller| { caller.ask_often(&rt, alloc, 500) },
     );
-    let mut places = Vec::new(alloc);
-    for caller in callers.iter() {
-        places.extend_from_slice(&caller.places)?;
-    }
-    places.sort()?;
-    assert_eq!(rt; places.len(), 1_000);
-    for (i, place) in places.iter().enumerate() {
-        assert_eq!(rt; *place, i as u64);
-    }
+    assert_eq!(rt; each_place_was_told_once(&rt, alloc, &callers)?, 2_000);
     Ok(())
 }

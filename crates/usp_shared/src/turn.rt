@@ -11,22 +11,30 @@ use crate::plays::{
     Asked, Commits, Compares, Cuts, Draws, Empties, Entered, Joins, Looks, Part, Passes, Room,
 };
 use crate::rule::{Board, Owned, Terms, Token};
+use crate::waiting::{Patience, give_way, wake_sleepers};
 use atomic_table::Table;
 use std::alloc::Global;
+use std::hint::spin_loop;
 use std::marker::Brand;
 use std::sync::Wait;
-use usp_nonce::{NonceKey, NonceTable, Turned};
+use std::sync::atomic::AtomicU64;
+use usp_nonce::{MAX_CALLS, MAX_UNTIL, MOMENT_LIMIT, NonceKey, NonceTable, Turned};
 
 /// The word that counts the calls.
 const COUNT: usize = 0;
 /// The word that gives tickets.
 const TICKET: usize = 1;
 /// The word that has the ticket served.
-const SERVING: usize = 2;
+pub(crate) const SERVING: usize = 2;
 /// The slot of the nonce table.
 const HOME: usize = 0;
-/// How often a seat looks for its turn before it parks.
-const LOOKS: u32 = 50;
+
+/// What a seat asks of the nonce table in its turn.
+pub(crate) struct Ask {
+    pub(crate) key: NonceKey,
+    pub(crate) now: u64,
+    pub(crate) until: u64,
+}
 
 /// Draws a ticket.
 fn draw(board: &Board, token: &mut Token) -> u64
@@ -34,7 +42,8 @@ fn draw(board: &Board, token: &mut Token) -> u64
     requires idle { IsIdle token.old.me }
     requires left { 0 < token.old.me.0.left }
     ensures table { token.new.table_id ≡ token.old.table_id }
-    ensures ticket { token.new.me ≡ (record token.old.me.0 { left = token.old.me.0.left - 1; ticket = result; stage = Waits }, []) }
+    ensures ticket { token.new.me ≡
+        (record token.old.me.0 { left = token.old.me.0.left - 1; ticket = result; stage = Waits }, []) }
 {
     board.fetch_add::<Draws>(token, TICKET, 1)
 }
@@ -55,13 +64,21 @@ fn look<E: Room>(board: &Board, token: &mut Token) -> u64
 
 /// Enters the call in the history, and answers its place.
 fn commit<E: Entered>(board: &Board, token: &mut Token, now: u64, until: u64, turned: Turned) -> u64
-    requires call { (E.call.now ≡ now) × (E.call.until ≡ until) × (E.call.moment ≡ turned.moment) × (E.call.answer ≡ turned.answer) }
+    requires call { (E.call.now ≡ now) × (E.call.until ≡ until)
+        × (E.call.moment ≡ turned.moment) × (E.call.answer ≡ turned.answer) }
     requires table { IsOf token.old.table_id board.now.table_id }
     requires turn { token.old.me.0.stage ≡ HasTurn }
     requires legal { IsLegal board.now.key.table.room (token.old.me.0.seen ++ E.call ∷ []) }
     ensures table { token.new.table_id ≡ token.old.table_id }
     ensures place { result ≡ length token.old.me.0.seen }
-    ensures view { token.new.me ≡ (record token.old.me.0 { seen = token.old.me.0.seen ++ E.call ∷ []; places = token.old.me.0.places ++ result ∷ []; stage = IsDone }, token.old.me.1) }
+    ensures view { token.new.me ≡ (
+      record token.old.me.0 {
+        seen = token.old.me.0.seen ++ E.call ∷ [];
+        places = token.old.me.0.places ++ result ∷ [];
+        stage = IsDone;
+      },
+      token.old.me.1,
+    ) }
 {
     board.fetch_add::<Commits<E>>(token, COUNT, 1)
 }
@@ -77,67 +94,70 @@ fn pass(board: &Board, token: &mut Token)
     board.fetch_add::<Passes>(token, SERVING, 1);
 }
 
-/// Makes the call with the nonce table in hand, and passes the turn on.
-fn call_in_turn<A: Asked>(
-    board: &Board,
-    token: &mut Token,
-    key: NonceKey,
-    now: u64,
-    until: u64,
-) -> Turned
-    requires nonce { key ≡ A.nonce }
-    requires moment { (now < 2 ^ 52) × (until ≤ 2 ^ 53) }
+/// Makes the call with the nonce table in hand, and passes the turn on. A key that the table refused comes back, so
+/// that its memory is let go after the turn.
+fn call_in_turn<A: Asked>(board: &Board, token: &mut Token, ask: Ask) -> (Turned, Option<NonceKey>)
+    requires nonce { ask.key ≡ A.nonce }
+    requires moment { (ask.now < MOMENT_LIMIT) × (ask.until ≤ MAX_UNTIL) }
     requires table { IsOf token.old.table_id board.now.table_id }
     requires turn { token.old.me.0.stage ≡ HasTurn }
     requires held { IsHeld board.now.key.table.room token.old.me }
     requires legal { IsLegal board.now.key.table.room token.old.me.0.seen }
-    requires small { length token.old.me.0.seen < 2 ^ 62 }
+    requires small { length token.old.me.0.seen < MAX_CALLS }
     ensures table { token.new.table_id ≡ token.old.table_id }
-    ensures place { result.place ≡ length token.old.me.0.seen }
-    ensures legal { IsLegal board.now.key.table.room (token.old.me.0.seen ++ call_of A.nonce now until result ∷ []) }
-    ensures view { token.new.me ≡ (record token.old.me.0 { seen = token.old.me.0.seen ++ call_of A.nonce now until result ∷ []; places = token.old.me.0.places ++ result.place ∷ []; stage = Idle }, []) }
+    ensures place { result.0.place ≡ length token.old.me.0.seen }
+    ensures legal { IsLegal board.now.key.table.room
+        (token.old.me.0.seen ++ call_of A.nonce ask.now ask.until result.0 ∷ []) }
+    ensures view { token.new.me ≡ (
+      record token.old.me.0 {
+        seen = token.old.me.0.seen ++ call_of A.nonce ask.now ask.until result.0 ∷ [];
+        places = token.old.me.0.places ++ result.0.place ∷ [];
+        stage = Idle;
+      },
+      [],
+    ) }
 {
+    let Ask { key, now, until } = ask;
     let Some(mut table) = board.exchange(token, HOME, None) else {
         unreachable!()
     };
-    let turned = table.take(key, now, until);
+    let (turned, returned) = table.take_or_return(key, now, until);
     let place = commit::<Brand>(board, token, now, until, turned);
     let _ = board.exchange(token, HOME, Some(table));
     pass(board, token);
-    Turned { place, ..turned }
+    (Turned { place, ..turned }, returned)
 }
 
-/// Makes the call once the seat's turn has come.
+/// Makes the call once the seat's turn has come. `asleep` counts the seats that sleep.
 pub(crate) fn take<A: Asked, R: Wait>(
     rt: &R,
     board: &Board,
+    asleep: &AtomicU64,
     token: &mut Token,
-    key: NonceKey,
-    now: u64,
-    until: u64,
+    ask: Ask,
 ) -> Turned
-    requires nonce { key ≡ A.nonce }
-    requires moment { (now < 2 ^ 52) × (until ≤ 2 ^ 53) }
+    requires nonce { ask.key ≡ A.nonce }
+    requires moment { (ask.now < MOMENT_LIMIT) × (ask.until ≤ MAX_UNTIL) }
     requires table { IsOf token.old.table_id board.now.table_id }
     requires idle { IsIdle token.old.me }
     requires left { 0 < token.old.me.0.left }
     ensures table { token.new.table_id ≡ token.old.table_id }
-    ensures call { IsCall board.now.key.table.room token.old.me (call_of A.nonce now until result) result.place token.new.me }
+    ensures call { IsCall board.now.key.table.room token.old.me
+        (call_of A.nonce ask.now ask.until result) result.place token.new.me }
 {
     let ticket = draw(board, token);
-    let mut looks = 0u32;
+    let mut patience = Patience::new();
     for _ in rt.forever() {
         let serving = look::<Brand>(board, token);
         if serving == ticket {
-            let turned = call_in_turn::<A>(board, token, key, now, until);
-            if board.peek(TICKET).wrapping_sub(ticket) > 1 {
-                board.wake_all(SERVING);
-            }
+            let (turned, _returned) = call_in_turn::<A>(board, token, ask);
+            wake_sleepers(board, asleep);
             return turned;
         }
-        looks = looks.saturating_add(1);
-        if looks > LOOKS {
-            board.park(rt, SERVING, (serving & 0xffff_ffff) as u32);
+        if patience.is_at_its_end(serving) {
+            give_way(rt, board, asleep, ticket.wrapping_sub(serving), serving);
+        } else {
+            spin_loop();
         }
     }
     unreachable!()
@@ -187,9 +207,10 @@ pub(crate) fn join(board: &Board, token: &mut Token, other: Token)
     requires other_idle { IsIdle other.me }
     ensures table { token.new.table_id ≡ token.old.table_id }
     ensures view { token.new.me ≡ (joined token.old.me.0 other.me.0, []) }
-    ensures one_history { IsPrefix token.old.me.0.seen token.new.me.0.seen × IsPrefix other.me.0.seen token.new.me.0.seen }
+    ensures one_history { IsPrefix token.old.me.0.seen token.new.me.0.seen
+        × IsPrefix other.me.0.seen token.new.me.0.seen }
     ensures apart { AreDistinctBelow (length token.new.me.0.seen) token.new.me.0.places }
-    ensures small { token.new.me.0.left + length token.new.me.0.places < 2 ^ 62 }
+    ensures small { token.new.me.0.left + length token.new.me.0.places < MAX_CALLS }
 {
     merge(board, token, other);
     compare(board, token);
@@ -218,7 +239,7 @@ fn fill_slot(board: &Board, token: &mut Token)
 
 /// A table that holds no nonce table yet, with its first seat.
 fn empty_table(alloc: Global, terms: &Terms) -> Option<(Owned, Token)>
-    requires share { terms.now.share < 2 ^ 62 }
+    requires share { terms.now.share < MAX_CALLS }
     ensures key { IfSome result (λ made. made.0.shared.key ≡ terms.now) }
     ensures table { IfSome result (λ made. IsOf made.1.table_id made.0.shared.table_id) }
     ensures view { IfSome result (λ made. made.1.me ≡ (first_view terms.now Opens, [])) }
@@ -233,7 +254,7 @@ pub(crate) fn open(
     share: u64,
 ) -> Result<(Owned, Token), NonceTable>
     requires fresh { StandsFor table [] }
-    requires share { share < 2 ^ 62 }
+    requires share { share < MAX_CALLS }
     ensures key { IfOk result (λ made. made.0.shared.key ≡ record { share = share; table = table }) }
     ensures table { IfOk result (λ made. IsOf made.1.table_id made.0.shared.table_id) }
     ensures view { IfOk result (λ made. made.1.me ≡ (first_view record { share = share; table = table } Idle, [])) }
@@ -261,6 +282,7 @@ pub(crate) fn close(table: Owned, token: Token) -> NonceTable
     ensures has { Has table.shared.key.table.room result token.me.0.seen }
     ensures legal { IsLegal table.shared.key.table.room token.me.0.seen }
     ensures all { AreAllBelow (length token.me.0.seen) token.me.0.places }
+    ensures counted { length token.me.0.places ≡ length token.me.0.seen }
 {
     let mut closed = table.close_with(token);
     let slot = closed.take(HOME);

@@ -35,6 +35,14 @@ returns-clause-all c =
     let end = c.close_with-closed.ensures.values.2 in
     (closes terms c.args.token.id v end.0 (seen_too terms c.args.token.id v end.0 (omega (arith, ap rank idle)) end.1) idle c.requires.whole).all
 
+pub returns-clause-counted : goal.returns-clause-counted
+returns-clause-counted c =
+    let terms = c.args.table.shared.key in
+    let v = c.args.token.me.0 in
+    let idle = c.requires.idle.stage in
+    let end = c.close_with-closed.ensures.values.2 in
+    (closes terms c.args.token.id v end.0 (seen_too terms c.args.token.id v end.0 (omega (arith, ap rank idle)) end.1) idle c.requires.whole).counted
+
 pub unreachable-requires : goal.unreachable-requires
 unreachable-requires c =
     let terms = c.args.table.shared.key in
