@@ -1,4 +1,5 @@
 pub mod Each
 pub mod Named
 pub mod Refused
+pub mod Sound
 pub mod Whole

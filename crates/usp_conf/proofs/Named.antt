@@ -5,7 +5,8 @@ use Rattle.std.specs.Prelude.{position}
 use Rattle.std.specs.Str.{bytes_eq}
 use Rattle.serde_json.specs.Data.{Data, Num, unsigned, negative, float, Items, no_items, item}
 use Rattle.serde_json.specs.Find.{get, as_str, as_number, as_bool, as_null, as_array, as_object}
-use Rattle.usp_jws.specs.Keys.{KeyValue, first_repeat}
+use Rattle.usp_jws.specs.Base64url.{b64u_bytes}
+use Rattle.usp_jws.specs.Keys.{KeyValue, first_repeat, place_named}
 use Rattle.usp_jws.specs.Letters.{is_identity, is_kid}
 use Rattle.usp_uri.specs.Origin.{Origin, origin_of, origin_text}
 use Rattle.usp_uri.specs.declared.fault.UriFault.{UriFault}
@@ -15,13 +16,17 @@ use Rattle.usp_ext.specs.declared.kinds.TestKind.{TestKind}
 use Rattle.usp_ext.specs.declared.kinds.TestKind.TheVariants as kind
 use Rattle.usp_conf.specs.Answers.{and_then}
 use Rattle.usp_conf.specs.Claims as claims
-use Rattle.usp_conf.specs.Conf.{names_of, trust_of, service_of, conf_of}
+use Rattle.usp_conf.specs.Conf.{conf_of}
 use Rattle.usp_conf.specs.Keys as keys
 use Rattle.usp_conf.specs.Letters.{is_scheme}
 use Rattle.usp_conf.specs.Lists.{each, has_length, rows_of, object_of, identities_of}
 use Rattle.usp_conf.specs.Members.{name_of}
 use Rattle.usp_conf.specs.Routes as routes
-use Rattle.usp_conf.specs.Texts.{required, optional, text_of, tested, identity_of, edge_of, scheme_of, attribute_of, within, number_of, room_of, enforce_value, enforce_of}
+use Rattle.usp_conf.specs.Texts.{required, optional, text_of, tested, text_that, identity_of, edge_of, scheme_of, attribute_of, within, number_of, room_of, enforce_value, enforce_of}
+use Rattle.usp_issue.specs.declared.limits.TheConstants.{MAX_ROUTES}
+use Rattle.usp_jws.specs.declared.limits.TheConstants.{MAX_KEYS, MAX_SECRET, MIN_SECRET}
+use Rattle.usp_claims.specs.declared.limits.TheConstants.{MAX_NUMBER}
+use Rattle.usp_conf.specs.declared.limits.TheConstants.{MAX_EXTENSIONS, MAX_IDENTITIES, MAX_ROOM}
 use Rattle.usp_conf.specs.declared.fault.ConfFault.{ConfFault}
 use Rattle.usp_conf.specs.declared.fault.ConfFault.TheVariants as fault
 use Rattle.usp_conf.specs.declared.member.Member.{Member}
@@ -66,12 +71,14 @@ may_have of without read fields one = chosen (get (name_of of) fields) read (Ok 
 text : (of : Member) (value : Data) → NamesRow (text_of of value)
 text of value = chosen (as_str value) (λ text. Ok text) (Err (fault.Kind of)) (λ text. right text) (wrong (fault.Kind of) tt)
 
-passing : (of : Member) (test : List ℕ → Bool) (value : Data) → NamesRow (tested of test value)
-passing of test value = bound (text_of of value) (λ text. if test text then Ok text else Err (fault.Range of)) (text of value)
-    (λ text. tried (test text) (Ok text) (Err (fault.Range of)) (right text) (wrong (fault.Range of) tt))
+ranged : {A : Type 0} (of : Member) (passes : Bool) (value : A) → NamesRow (tested of passes value)
+ranged of passes value = tried passes (Ok value) (Err (fault.Range of)) (right value) (wrong (fault.Range of) tt)
+
+passing : (of : Member) (test : List ℕ → Bool) (value : Data) → NamesRow (text_that test of value)
+passing of test value = bound (text_of of value) (λ text. tested of (test text) text) (text of value) (λ text. ranged of (test text) text)
 
 inside : (of : Member) (least most : ℕ) (n : Num) → NamesRow (within of least most n)
-inside of least most (unsigned n) = tried (nat_le least n && nat_le n most) (Ok n) (Err (fault.Range of)) (right n) (wrong (fault.Range of) tt)
+inside of least most (unsigned n) = ranged of (nat_le least n && nat_le n most) n
 inside of least most (negative z) = wrong (fault.Range of) tt
 inside of least most (float x) = wrong (fault.Range of) tt
 
@@ -90,26 +97,27 @@ object : {A : Type 0} (list : Member) (read : Data → Result A ConfFault) → (
 object list read one value = chosen (as_object value) (λ members. read value) (Err (fault.Kind list)) (λ members. one value) (wrong (fault.Kind list) tt)
 
 texts : (of : Member) (fields : Data) → NamesRow (identities_of of fields)
-texts of fields = may_have of _ _ fields (λ value. rows of 0 64 (identity_of of) value (passing of is_identity))
+texts of fields = may_have of _ _ fields (λ value. rows of 0 MAX_IDENTITIES (identity_of of) value (passing of is_identity))
 
-sized : (kid bytes : List ℕ) → NamesRow (keys.sized kid bytes)
-sized kid bytes = tried (nat_lt (length bytes) 32) _ _ (wrong (fault.ShortKey kid) tt) (tried (nat_lt 64 (length bytes)) _ _ (wrong (fault.Range member.Secret) tt) (right bytes))
+long_enough : (kid bytes : List ℕ) → NamesRow (keys.secret_of_length kid bytes)
+long_enough kid bytes = tried (nat_lt (length bytes) MIN_SECRET) _ _ (wrong (fault.ShortKey kid) tt) (ranged member.Secret (nat_le (length bytes) MAX_SECRET) bytes)
 
 secret : (kid : List ℕ) (value : Data) → NamesRow (keys.secret_value kid value)
-secret kid value = bound (text_of member.Secret value) _ (text member.Secret value) (λ text. chosen (keys.decoded text) (keys.sized kid) _ (sized kid) (wrong (fault.Range member.Secret) tt))
+secret kid value = bound (text_of member.Secret value) _ (text member.Secret value) (λ text. chosen (b64u_bytes text) (keys.secret_of_length kid) _ (long_enough kid) (wrong (fault.Range member.Secret) tt))
 
 key : (fields : Data) → NamesRow (keys.key_in fields)
-key fields = bound (keys.kid_of fields) _ (needs member.Kid keys.kid_value fields (passing member.Kid is_kid)) (λ kid.
+key fields = bound (keys.kid_of fields) _ (needs member.Kid _ fields (passing member.Kid is_kid)) (λ kid.
     bound (keys.issuer_of fields) _ (needs member.Issuer _ fields (passing member.Issuer is_identity)) (λ issuer.
     bound (keys.secret_of kid fields) _ (needs member.Secret (keys.secret_value kid) fields (secret kid)) (λ secret. record { row = tt })))
 
 ring : (value : Data) → NamesRow (keys.keys_value value)
-ring value = bound (rows_of member.Keys 1 64 (object_of member.Keys keys.key_in) value) keys.apart (rows member.Keys 1 64 _ value (object member.Keys keys.key_in key))
+ring value = bound (rows_of member.Keys 1 MAX_KEYS (object_of member.Keys keys.key_in) value) keys.distinct_keys
+    (rows member.Keys 1 MAX_KEYS _ value (object member.Keys keys.key_in key))
     (λ keys. tried (is_some (first_repeat keys)) _ _ (wrong (fault.Repeat member.Kid) tt) (right keys))
 
 place : (all : List KeyValue) (issuers : List (List ℕ)) (kid : List ℕ) → NamesRow (keys.place_of all issuers kid)
-place all issuers kid = chosen (position (λ key. bytes_eq key.kid kid) all) _ _
-    (λ place. tried (is_own all issuers place) _ _ (right place) (wrong (fault.Range member.SignKid) tt)) (wrong (fault.Range member.SignKid) tt)
+place all issuers kid = chosen (place_named all kid) _ _
+    (λ place. ranged member.SignKid (is_own all issuers place) place) (wrong (fault.Range member.SignKid) tt)
 
 sign : (all : List KeyValue) (issuers : List (List ℕ)) (value : Data) → NamesRow (keys.sign_value all issuers value)
 sign all issuers value = bound (text_of member.SignKid value) (keys.place_of all issuers) (text member.SignKid value) (place all issuers)
@@ -129,7 +137,7 @@ setting : (test : TestKind) (value : Data) → NamesRow (claims.setting_value te
 setting kind.Any value = nothing value
 setting kind.Equals value = bound (text_of member.Setting value) _ (text member.Setting value) (λ text. record { row = tt })
 setting kind.OneOf value = several value
-setting kind.AtMost value = bound (number_of member.Setting 0 9007199254740991 value) _ (number member.Setting 0 9007199254740991 value) (λ most. record { row = tt })
+setting kind.AtMost value = bound (number_of member.Setting 0 MAX_NUMBER value) _ (number member.Setting 0 MAX_NUMBER value) (λ most. record { row = tt })
 setting kind.PathPrefix value = nothing value
 
 test : (value : Data) → NamesRow (claims.kind_of value)
@@ -137,13 +145,13 @@ test value = bound (text_of member.Test value) claims.kind_value (text member.Te
     (λ name. chosen (claims.kind_named name) _ _ (λ kind. right kind) (wrong (fault.Range member.Test) tt))
 
 extension : (fields : Data) → NamesRow (claims.extension_in fields)
-extension fields = bound (claims.claim_of fields) _ (needs member.Claim claims.claim_value fields (passing member.Claim claims.is_free)) (λ claim.
+extension fields = bound (claims.claim_of fields) _ (needs member.Claim _ fields (passing member.Claim claims.is_free)) (λ claim.
     bound (claims.test_of fields) _ (needs member.Test claims.kind_of fields test) (λ kind.
     bound (claims.setting_of kind fields) _ (needs member.Setting (claims.setting_value kind) fields (setting kind)) (λ told. record { row = tt })))
 
 extensions : (value : Data) → NamesRow (claims.extensions_value value)
-extensions value = bound (rows_of member.Extensions 0 32 (object_of member.Extensions claims.extension_in) value) claims.apart
-    (rows member.Extensions 0 32 _ value (object member.Extensions claims.extension_in extension))
+extensions value = bound (rows_of member.Extensions 0 MAX_EXTENSIONS (object_of member.Extensions claims.extension_in) value) claims.distinct_extensions
+    (rows member.Extensions 0 MAX_EXTENSIONS _ value (object member.Extensions claims.extension_in extension))
     (λ listed. tried (claims.repeats_behind [] listed) _ _ (wrong (fault.Repeat member.Claim) tt) (right listed))
 
 origin : (place : Result Origin UriFault) → NamesRow (routes.place_value place)
@@ -158,33 +166,28 @@ somewhere fields = bound (routes.scheme_of fields) _ (needs member.Scheme _ fiel
     (λ scheme. needs member.Authority (routes.authority_value scheme) fields (authority scheme))
 
 route : (fields : Data) → NamesRow (routes.route_in fields)
-route fields = bound (routes.prefix_of fields) _ (needs member.Prefix routes.prefix_value fields (passing member.Prefix routes.is_prefix)) (λ prefix.
+route fields = bound (routes.prefix_of fields) _ (needs member.Prefix _ fields (passing member.Prefix routes.is_prefix)) (λ prefix.
     bound (routes.place_of fields) _ (somewhere fields) (λ place.
     bound (keys.key_in fields) _ (key fields) (λ key.
     bound (routes.audience_of fields) _ (needs member.Audience _ fields (passing member.Audience is_identity)) (λ audience. record { row = tt }))))
 
 enforced : (value : Data) → NamesRow (enforce_value value)
-enforced value = chosen (as_bool value) _ _ (λ on. tried on _ _ (right true) (wrong (fault.Range member.Enforce) tt)) (wrong (fault.Kind member.Enforce) tt)
-
-names : (fields : Data) → NamesRow (names_of fields)
-names fields = bound (edge_of fields) _ (needs member.Edge _ fields (passing member.Edge is_identity)) (λ edge.
-    bound (scheme_of fields) _ (needs member.Scheme _ fields (passing member.Scheme is_scheme)) (λ scheme.
-    bound (attribute_of fields) _ (may_have member.Attribute _ _ fields (passing member.Attribute is_attr_name)) (λ attribute. record { row = tt })))
-
-trust : (fields : Data) → NamesRow (trust_of fields)
-trust fields = bound (keys.keys_of fields) _ (needs member.Keys keys.keys_value fields ring) (λ all.
-    bound (identities_of member.Issuers fields) _ (texts member.Issuers fields) (λ issuers.
-    bound (identities_of member.Audience fields) _ (texts member.Audience fields) (λ audience.
-    bound (keys.sign_of all issuers fields) _ (needs member.SignKid (keys.sign_value all issuers) fields (sign all issuers)) (λ sign. record { row = tt }))))
-
-service : (fields : Data) → NamesRow (service_of fields)
-service fields = bound (room_of fields) _ (may_have member.Room _ _ fields (number member.Room 1 65536)) (λ room.
-    bound (claims.extensions_of fields) _ (may_have member.Extensions _ _ fields extensions) (λ extensions.
-    bound (routes.routes_of fields) _ (may_have member.Routes _ _ fields (λ value. rows member.Routes 0 16 _ value (object member.Routes routes.route_in route))) (λ routes.
-    bound (enforce_of fields) _ (may_have member.Enforce _ _ fields enforced) (λ on. record { row = tt }))))
+enforced value = chosen (as_bool value) _ _ (λ on. ranged member.Enforce on true) (wrong (fault.Kind member.Enforce) tt)
 
 whole : (fields : Data) → NamesRow (conf_of fields)
-whole fields = bound (names_of fields) _ (names fields) (λ names. bound (trust_of fields) _ (trust fields) (λ trust. bound (service_of fields) _ (service fields) (λ service. record { row = tt })))
+whole fields =
+    bound (edge_of fields) _ (needs member.Edge _ fields (passing member.Edge is_identity)) (λ edge.
+    bound (scheme_of fields) _ (needs member.Scheme _ fields (passing member.Scheme is_scheme)) (λ scheme.
+    bound (attribute_of fields) _ (may_have member.Attribute _ _ fields (passing member.Attribute is_attr_name)) (λ attribute.
+    bound (keys.keys_of fields) _ (needs member.Keys keys.keys_value fields ring) (λ all.
+    bound (identities_of member.Issuers fields) _ (texts member.Issuers fields) (λ issuers.
+    bound (identities_of member.Audience fields) _ (texts member.Audience fields) (λ audience.
+    bound (keys.sign_of all issuers fields) _ (needs member.SignKid (keys.sign_value all issuers) fields (sign all issuers)) (λ sign.
+    bound (room_of fields) _ (may_have member.Room _ _ fields (number member.Room 1 MAX_ROOM)) (λ room.
+    bound (claims.extensions_of fields) _ (may_have member.Extensions _ _ fields extensions) (λ extensions.
+    bound (routes.routes_of fields) _ (may_have member.Routes _ _ fields
+    (λ value. rows member.Routes 0 MAX_ROUTES _ value (object member.Routes routes.route_in route))) (λ routes.
+    bound (enforce_of fields) _ (may_have member.Enforce _ _ fields enforced) (λ on. record { row = tt })))))))))))
 
 json_is_none : {A : Type 0} (result : Result A ConfFault) → NamesRow result → result ≡ Err fault.Json → ⊥
 json_is_none result names is = let none = rw is at names in none.row

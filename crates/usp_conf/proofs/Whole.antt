@@ -32,5 +32,5 @@ failing (fault.Range of) text json utf8 reading h = failed text json (fault.Rang
 failing (fault.ShortKey kid) text json utf8 reading h = failed text json (fault.ShortKey kid) utf8 reading h
 failing (fault.Repeat of) text json utf8 reading h = failed text json (fault.Repeat of) utf8 reading h
 
-pub configured : (text : List ℕ) (json : Data) (value : ConfValue) → IsUtf8 text → read text ≡ Some json → conf_of json ≡ Ok value → Configures text value
-configured text json value utf8 reading defined = record { utf8 = utf8; json = json; reading = reading; defined = defined }
+pub reads : (text : List ℕ) (json : Data) (value : ConfValue) → IsUtf8 text → read text ≡ Some json → conf_of json ≡ Ok value → Configures text value
+reads text json value utf8 reading defined = record { utf8 = utf8; json = json; reading = reading; defined = defined }

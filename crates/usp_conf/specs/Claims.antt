@@ -19,8 +19,10 @@ use Rattle.usp_ext.specs.declared.kinds.Setting.{Setting}
 use Rattle.usp_ext.specs.declared.kinds.Setting.TheVariants as setting
 use Rattle.usp_ext.specs.declared.kinds.Extension.{Extension}
 use Rattle.usp_conf.specs.Answers.{and_then}
-use Rattle.usp_conf.specs.Texts.{required, optional, text_of, tested, number_of}
+use Rattle.usp_conf.specs.Texts.{required, optional, text_of, text_that, number_of}
 use Rattle.usp_conf.specs.Lists.{each, rows_of, object_of}
+use Rattle.usp_claims.specs.declared.limits.TheConstants.{MAX_NUMBER}
+use Rattle.usp_conf.specs.declared.limits.TheConstants.{MAX_EXTENSIONS}
 use Rattle.usp_conf.specs.declared.fault.ConfFault.{ConfFault}
 use Rattle.usp_conf.specs.declared.fault.ConfFault.TheVariants as fault
 use Rattle.usp_conf.specs.declared.member.Member.TheVariants as member
@@ -49,7 +51,8 @@ kind_of value = and_then (text_of member.Test value) kind_value
 
 -- the shape of the setting, by the kind of the test
 abbrev pub nothing_of : Data → Result Setting ConfFault
-nothing_of value = option_map_or (λ null. Ok setting.Nothing) (as_null value) (Err (fault.Kind member.Setting))
+nothing_of value =
+    option_map_or (λ null. Ok setting.Nothing) (as_null value) (Err (fault.Kind member.Setting))
 
 abbrev pub words_of : Data → Result Setting ConfFault
 words_of value = and_then (text_of member.Setting value) (λ text. Ok (setting.Words text))
@@ -65,10 +68,11 @@ texts_of values = and_then (each json_text_of values) (λ texts. Ok (items texts
 
 abbrev pub several_of : Data → Result Setting ConfFault
 several_of value =
-    option_map_or (λ values. and_then (texts_of values) (λ texts. Ok (setting.Several texts))) (as_array value) (Err (fault.Kind member.Setting))
+    option_map_or (λ values. and_then (texts_of values) (λ texts. Ok (setting.Several texts))) (as_array value)
+    (Err (fault.Kind member.Setting))
 
 abbrev pub most_of : Data → Result Setting ConfFault
-most_of value = and_then (number_of member.Setting 0 9007199254740991 value) (λ most. Ok (setting.Number most))
+most_of value = and_then (number_of member.Setting 0 MAX_NUMBER value) (λ most. Ok (setting.Number most))
 
 abbrev pub setting_value : TestKind → Data → Result Setting ConfFault
 setting_value kind.Any = nothing_of
@@ -77,11 +81,8 @@ setting_value kind.OneOf = several_of
 setting_value kind.AtMost = most_of
 setting_value kind.PathPrefix = nothing_of
 
-abbrev pub claim_value : Data → Result (List ℕ) ConfFault
-claim_value = tested member.Claim is_free
-
 abbrev pub claim_of : Data → Result (List ℕ) ConfFault
-claim_of = required member.Claim claim_value
+claim_of = required member.Claim (text_that is_free member.Claim)
 
 abbrev pub test_of : Data → Result TestKind ConfFault
 test_of = required member.Test kind_of
@@ -101,11 +102,14 @@ abbrev pub repeats_behind : List Extension → List Extension → Bool
 repeats_behind earlier [] = false
 repeats_behind earlier (one ∷ more) = is_listed one.claim earlier || repeats_behind (earlier ++ one ∷ []) more
 
-abbrev pub apart : List Extension → Result (List Extension) ConfFault
-apart extensions = if repeats_behind [] extensions then Err (fault.Repeat member.Claim) else Ok extensions
+abbrev pub distinct_extensions : List Extension → Result (List Extension) ConfFault
+distinct_extensions extensions =
+    if repeats_behind [] extensions then Err (fault.Repeat member.Claim) else Ok extensions
 
 abbrev pub extensions_value : Data → Result (List Extension) ConfFault
-extensions_value value = and_then (rows_of member.Extensions 0 32 (object_of member.Extensions extension_in) value) apart
+extensions_value value =
+    and_then (rows_of member.Extensions 0 MAX_EXTENSIONS (object_of member.Extensions extension_in) value)
+    distinct_extensions
 
 abbrev pub extensions_of : Data → Result (List Extension) ConfFault
 extensions_of = optional member.Extensions [] extensions_value

@@ -5,6 +5,7 @@ use Rattle.serde_json.specs.Data.{Data, Items, no_items, item}
 use Rattle.serde_json.specs.Find.{as_array, as_object}
 use Rattle.usp_conf.specs.Answers.{and_then}
 use Rattle.usp_conf.specs.Texts.{optional, identity_of}
+use Rattle.usp_conf.specs.declared.limits.TheConstants.{MAX_IDENTITIES}
 use Rattle.usp_conf.specs.declared.fault.ConfFault.{ConfFault}
 use Rattle.usp_conf.specs.declared.fault.ConfFault.TheVariants as fault
 use Rattle.usp_conf.specs.declared.member.Member.{Member}
@@ -12,7 +13,9 @@ use Rattle.usp_conf.specs.declared.member.Member.{Member}
 -- the elements, one whole element after the other
 abbrev pub each : {A : Type 0} → (Data → Result A ConfFault) → Items → Result (List A) ConfFault
 each read no_items = Ok []
-each read (item value values) = and_then (read value) (λ first. and_then (each read values) (λ others. Ok (first ∷ others)))
+each read (item value values) =
+    and_then (read value) (λ first.
+    and_then (each read values) (λ others. Ok (first ∷ others)))
 
 abbrev pub count : Items → ℕ
 count no_items = 0
@@ -32,4 +35,4 @@ abbrev pub object_of : {A : Type 0} → Member → (Data → Result A ConfFault)
 object_of list read value = option_map_or (λ members. read value) (as_object value) (Err (fault.Kind list))
 
 abbrev pub identities_of : Member → Data → Result (List (List ℕ)) ConfFault
-identities_of of = optional of [] (rows_of of 0 64 (identity_of of))
+identities_of of = optional of [] (rows_of of 0 MAX_IDENTITIES (identity_of of))

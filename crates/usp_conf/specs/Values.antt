@@ -3,6 +3,7 @@ use Rattle.std.specs.Prelude.{◌≡◌, ℕ, ◌≤◌, true, List}
 use Rattle.usp_issue.specs.Sites.{SiteValue}
 use Rattle.usp_jws.specs.Letters.{is_identity}
 use Rattle.usp_conf.specs.Letters.{is_scheme}
+use Rattle.usp_conf.specs.declared.limits.TheConstants.{MAX_ROOM}
 
 -- a configuration by the edge's name, its scheme, the room of its nonce table and its site
 pub record ConfValue : Type 0 where
@@ -14,8 +15,8 @@ pub record ConfValue : Type 0 where
 abbrev pub conf : List ℕ → List ℕ → ℕ → SiteValue → ConfValue
 conf edge scheme room site = record { edge = edge; scheme = scheme; room = room; site = site }
 
--- What each configuration keeps.
+-- what each configuration keeps
 pub record IsConf (value : ConfValue) : Type 0 where
   pub edge : is_identity value.edge ≡ true
   pub scheme : is_scheme value.scheme ≡ true
-  pub room : (1 ≤ value.room) × (value.room ≤ 65536)
+  pub room : (1 ≤ value.room) × (value.room ≤ MAX_ROOM)

@@ -1,21 +1,19 @@
-// Extensions: claims with their tests.
+//! Extensions: claims with their tests.
 ghost use Rattle.std.specs.Prelude.{◌≡◌, ◌==◌, true, false, take, drop, length, [], IfOk, IfErr};
 ghost use Rattle.std.specs.List.{list_any};
 ghost use Rattle.std.specs.Str.{bytes_eq};
 ghost use Rattle.serde_json.specs.View.{view, items_view};
 ghost use Rattle.usp_conf.specs.Answers.{Gives};
-ghost use Rattle.usp_conf.specs.Claims.{has_row, is_free, claim_value, claim_of, kind_named, kind_value, kind_of, test_of, nothing_of, words_of, json_text_of, texts_of, several_of, most_of, setting_value, setting_of, extension_in, repeats_behind, apart, extensions_value, extensions_of};
+ghost use Rattle.usp_conf.specs.Claims.{has_row, is_free, claim_of, kind_named, kind_value, kind_of, test_of, nothing_of, words_of, texts_of, several_of, most_of, setting_value, setting_of, extension_in, distinct_extensions, extensions_value, extensions_of};
 
 use crate::lists::{Element, Listed, rows_of};
-use crate::texts::{member_of, number_of, text_of};
-use crate::{ConfFault, Member};
+use crate::texts::{number_of, optional, required, tested, text_of};
+use crate::{ConfFault, MAX_EXTENSIONS, Member};
 use serde_json::Value;
 use std::alloc::Global;
-use usp_claims::{ROWS, Row};
+use usp_claims::{MAX_NUMBER, ROWS, Row};
 use usp_ext::{ExtFault, Extension, Extensions, Setting, TestKind};
 use usp_json::{Items, Json, Text};
-
-const LARGEST_NUMBER: u64 = 9_007_199_254_740_991;
 
 fn has_row(rows: &[Row], claim: &[u8]) -> bool
     ensures { result ≡ has_row rows.now claim.now }
@@ -30,25 +28,13 @@ fn is_free(claim: &[u8]) -> bool
     !has_row(&ROWS, claim)
 }
 
-fn claim_value(alloc: Global, value: &Value) -> Result<Text, ConfFault>
-    ensures { Gives result (claim_value (view value.now)) }
-{
-    let member = Member::Claim;
-    let claim = text_of(alloc, member, value)?;
-    if !is_free(claim.text().as_bytes()) {
-        return Err(ConfFault::Range { member });
-    }
-    Ok(claim)
-}
-
 fn claim_of(alloc: Global, object: &Value) -> Result<Text, ConfFault>
     ensures { Gives result (claim_of (view object.now)) }
 {
     let member = Member::Claim;
-    match member_of(object, member) {
-        None => Err(ConfFault::Missing { member }),
-        Some(value) => claim_value(alloc, value),
-    }
+    let claim = text_of(alloc, member, required(object, member)?)?;
+    tested(member, is_free(claim.text().as_bytes()))?;
+    Ok(claim)
 }
 
 // The test of that name.
@@ -91,11 +77,7 @@ fn kind_of(alloc: Global, value: &Value) -> Result<TestKind, ConfFault>
 fn test_of(alloc: Global, object: &Value) -> Result<TestKind, ConfFault>
     ensures { Gives result (test_of (view object.now)) }
 {
-    let member = Member::Test;
-    match member_of(object, member) {
-        None => Err(ConfFault::Missing { member }),
-        Some(value) => kind_of(alloc, value),
-    }
+    kind_of(alloc, required(object, Member::Test)?)
 }
 
 fn nothing_of(value: &Value) -> Result<Setting, ConfFault>
@@ -140,10 +122,7 @@ fn several_of(alloc: Global, value: &Value) -> Result<Setting, ConfFault>
 fn most_of(value: &Value) -> Result<Setting, ConfFault>
     ensures { Gives result (most_of (view value.now)) }
 {
-    match number_of(Member::Setting, 0, LARGEST_NUMBER, value) {
-        Ok(most) => Ok(Setting::Number(most)),
-        Err(fault) => Err(fault),
-    }
+    Ok(Setting::Number(number_of(Member::Setting, 0, MAX_NUMBER, value)?))
 }
 
 // The setting of a test, by its kind.
@@ -161,11 +140,7 @@ fn setting_value(alloc: Global, kind: TestKind, value: &Value) -> Result<Setting
 fn setting_of(alloc: Global, kind: TestKind, object: &Value) -> Result<Setting, ConfFault>
     ensures { Gives result (setting_of kind (view object.now)) }
 {
-    let member = Member::Setting;
-    match member_of(object, member) {
-        None => Err(ConfFault::Missing { member }),
-        Some(value) => setting_value(alloc, kind, value),
-    }
+    setting_value(alloc, kind, required(object, Member::Setting)?)
 }
 
 fn extension_in(alloc: Global, object: &Value) -> Result<Extension, ConfFault>
@@ -196,8 +171,8 @@ impl Element for Extension {
 }
 
 // Extensions of which no two are of one claim.
-fn apart(alloc: Global, rows: Listed<Extension>) -> Result<Extensions, ConfFault>
-    ensures { Gives result (apart rows) }
+fn distinct_extensions(alloc: Global, rows: Listed<Extension>) -> Result<Extensions, ConfFault>
+    ensures { Gives result (distinct_extensions rows) }
 {
     let mut extensions = Extensions::empty(alloc);
     for row in rows.into_vec() {
@@ -217,14 +192,14 @@ fn apart(alloc: Global, rows: Listed<Extension>) -> Result<Extensions, ConfFault
 fn extensions_value(alloc: Global, value: &Value) -> Result<Extensions, ConfFault>
     ensures { Gives result (extensions_value (view value.now)) }
 {
-    let rows = rows_of(alloc, Member::Extensions, 0, 32, value)?;
-    apart(alloc, rows)
+    let rows = rows_of(alloc, Member::Extensions, 0, MAX_EXTENSIONS, value)?;
+    distinct_extensions(alloc, rows)
 }
 
 pub(crate) fn extensions_of(alloc: Global, object: &Value) -> Result<Extensions, ConfFault>
     ensures { Gives result (extensions_of (view object.now)) }
 {
-    match member_of(object, Member::Extensions) {
+    match optional(object, Member::Extensions) {
         None => Ok(Extensions::empty(alloc)),
         Some(value) => extensions_value(alloc, value),
     }

@@ -1,8 +1,9 @@
-// A configuration.
+//! A configuration.
 ghost use Rattle.std.specs.Prelude.{◌≡◌, ◌≤◌, true};
 ghost use Rattle.usp_jws.specs.Letters.{is_identity};
 ghost use Rattle.usp_conf.specs.Letters.{is_scheme};
 ghost use Rattle.usp_conf.specs.Values.{conf};
+ghost use Rattle.usp_conf.specs.declared.limits.TheConstants.{MAX_ROOM};
 
 use std::marker::Model;
 use usp_issue::Site;
@@ -35,7 +36,7 @@ impl Conf {
     pub(crate) fn new(edge: Text, scheme: Text, room: u32, site: Site) -> Conf
         requires edge { is_identity edge ≡ true }
         requires scheme { is_scheme scheme ≡ true }
-        requires room { (1 ≤ room) × (room ≤ 65536) }
+        requires room { (1 ≤ room) × (room ≤ MAX_ROOM) }
         ensures { result ≡ conf edge scheme room site }
     {
         Conf {
@@ -65,7 +66,7 @@ impl Conf {
     /// How many nonces the edge keeps at a time.
     pub fn room(&self) -> u32
         ensures value { result ≡ self.now.room }
-        ensures bounds { (1 ≤ self.now.room) × (self.now.room ≤ 65536) }
+        ensures bounds { (1 ≤ self.now.room) × (self.now.room ≤ MAX_ROOM) }
     {
         self.room
     }

@@ -6,9 +6,9 @@ mod conf;
 mod fault;
 mod keys;
 mod laws;
+mod limits;
 mod lists;
 mod member;
-mod parts;
 mod reading;
 mod routes;
 #[cfg(test)]
@@ -17,6 +17,9 @@ mod texts;
 
 pub use conf::Conf;
 pub use fault::ConfFault;
-pub use laws::{configures_once, refused_are_no_configurations};
+pub use laws::{
+    configures_once, configures_what_signing_needs, limits_are_told, refused_are_no_configurations,
+};
+pub use limits::{MAX_EXTENSIONS, MAX_IDENTITIES, MAX_PREFIX, MAX_ROOM};
 pub use member::Member;
 pub use reading::read_conf;

@@ -1,12 +1,13 @@
-// Members that are lists.
+//! Members that are lists.
 ghost use Rattle.std.specs.Prelude.{◌≡◌, ◌≤◌, true, length, [], IfOk};
 ghost use Rattle.serde_json.specs.View.{view, items_view};
 ghost use Rattle.usp_conf.specs.Answers.{Gives};
 ghost use Rattle.usp_conf.specs.Lists.{each, has_length, rows_of, identities_of};
 ghost use Rattle.usp_conf.specs.Texts.{identity_of};
+ghost use Rattle.usp_conf.specs.declared.limits.TheConstants.{MAX_IDENTITIES};
 
-use crate::texts::{identity_of, member_of};
-use crate::{ConfFault, Member};
+use crate::texts::{identity_of, optional};
+use crate::{ConfFault, MAX_IDENTITIES, Member};
 use serde_json::Value;
 use std::alloc::Global;
 use std::marker::Model;
@@ -79,10 +80,7 @@ pub(crate) fn elements<E: Element>(
     let mut rows = Vec::new(alloc);
     for value in values {
         let row = E::read(alloc, list, value)?;
-        match rows.push(row) {
-            Ok(()) => {}
-            Err(_) => return Err(ConfFault::NoMemory),
-        }
+        rows.push(row)?;
     }
     Ok(Listed::of(rows))
 }
@@ -119,13 +117,13 @@ pub(crate) fn rows_of<E: Element>(
 }
 
 fn identities_value(alloc: Global, list: Member, value: &Value) -> Result<Rows<Text>, ConfFault>
-    ensures { Gives result (rows_of list 0 64 (identity_of list) (view value.now)) }
+    ensures { Gives result (rows_of list 0 MAX_IDENTITIES (identity_of list) (view value.now)) }
 {
-    let listed = rows_of(alloc, list, 0, 64, value)?;
+    let listed = rows_of(alloc, list, 0, MAX_IDENTITIES, value)?;
     Ok(Rows::of(listed.into_vec()))
 }
 
-// A list of at most 64 identities, none where there is no such member.
+// A list of at most `MAX_IDENTITIES` identities, none where there is no such member.
 pub(crate) fn identities_of(
     alloc: Global,
     list: Member,
@@ -133,7 +131,7 @@ pub(crate) fn identities_of(
 ) -> Result<Rows<Text>, ConfFault>
     ensures { Gives result (identities_of list (view object.now)) }
 {
-    match member_of(object, list) {
+    match optional(object, list) {
         None => Ok(Rows::of(Vec::new(alloc))),
         Some(value) => identities_value(alloc, list, value),
     }

@@ -1,24 +1,24 @@
-// Routes.
+//! Routes.
 ghost use Rattle.std.specs.Prelude.{◌≡◌, ◌==◌, ◌<◌, ◌≤◌, true, false, length, nat_lt, IfOk, IfErr};
 ghost use Rattle.std.specs.List.{list_all};
 ghost use Rattle.serde_json.specs.View.{view};
 ghost use Rattle.usp_jws.specs.Letters.{is_identity};
 ghost use Rattle.usp_uri.specs.Origin.{origin_of, origin_text};
 ghost use Rattle.usp_conf.specs.Answers.{Gives};
-ghost use Rattle.usp_conf.specs.Routes.{begins_with_slash, is_ascii, is_prefix, prefix_value, prefix_of, scheme_of, place_value, authority_value, authority_of, place_of, audience_of, route_in, routes_value, routes_of};
+ghost use Rattle.usp_conf.specs.Routes.{begins_with_slash, is_ascii, is_prefix, prefix_of, scheme_of, place_value, authority_value, authority_of, place_of, audience_of, route_in, routes_value, routes_of};
+ghost use Rattle.usp_issue.specs.declared.limits.TheConstants.{MAX_ROUTES};
+ghost use Rattle.usp_conf.specs.declared.limits.TheConstants.{MAX_PREFIX};
 
 use crate::keys::key_in;
 use crate::lists::{Element, rows_of};
-use crate::texts::{identity_of, member_of, text_of};
-use crate::{ConfFault, Member};
+use crate::texts::{identity_of, optional, required, tested, text_of};
+use crate::{ConfFault, MAX_PREFIX, Member};
 use serde_json::Value;
 use std::alloc::Global;
 use usp_base::Rows;
-use usp_issue::Route;
+use usp_issue::{MAX_ROUTES, Route};
 use usp_json::Text;
-use usp_uri::{Place, UriFault};
-
-const LONGEST_PREFIX: usize = 1024;
+use usp_uri::Place;
 
 fn begins_with_slash(text: &[u8]) -> bool
     ensures { result ≡ begins_with_slash text.now }
@@ -32,35 +32,23 @@ fn begins_with_slash(text: &[u8]) -> bool
 fn is_ascii(text: &[u8]) -> bool
     ensures { result ≡ is_ascii text.now }
 {
-    text.iter().all(|b| *b < 128)
+    text.iter().all(|b| b.is_ascii())
 }
 
-// Whether a text may be the front of a path: 1 to 1,024 bytes of ASCII, of which the first is `/`.
+// Whether a text may be the front of a path: at most `MAX_PREFIX` bytes of ASCII, of which the first is `/`.
 fn is_prefix(text: &[u8]) -> bool
     ensures { result ≡ is_prefix text.now }
 {
-    begins_with_slash(text) && text.len() <= LONGEST_PREFIX && is_ascii(text)
-}
-
-fn prefix_value(alloc: Global, value: &Value) -> Result<Text, ConfFault>
-    ensures { Gives result (prefix_value (view value.now)) }
-{
-    let member = Member::Prefix;
-    let prefix = text_of(alloc, member, value)?;
-    if !is_prefix(prefix.text().as_bytes()) {
-        return Err(ConfFault::Range { member });
-    }
-    Ok(prefix)
+    begins_with_slash(text) && text.len() <= MAX_PREFIX && is_ascii(text)
 }
 
 fn prefix_of(alloc: Global, object: &Value) -> Result<Text, ConfFault>
     ensures { Gives result (prefix_of (view object.now)) }
 {
     let member = Member::Prefix;
-    match member_of(object, member) {
-        None => Err(ConfFault::Missing { member }),
-        Some(value) => prefix_value(alloc, value),
-    }
+    let prefix = text_of(alloc, member, required(object, member)?)?;
+    tested(member, is_prefix(prefix.text().as_bytes()))?;
+    Ok(prefix)
 }
 
 // A route's scheme has no range of its own: it must make a place.
@@ -68,10 +56,7 @@ fn scheme_of(alloc: Global, object: &Value) -> Result<Text, ConfFault>
     ensures { Gives result (scheme_of (view object.now)) }
 {
     let member = Member::Scheme;
-    match member_of(object, member) {
-        None => Err(ConfFault::Missing { member }),
-        Some(value) => text_of(alloc, member, value),
-    }
+    text_of(alloc, member, required(object, member)?)
 }
 
 fn place_value(alloc: Global, scheme: &Text, authority: &Text) -> Result<Place, ConfFault>
@@ -79,7 +64,7 @@ fn place_value(alloc: Global, scheme: &Text, authority: &Text) -> Result<Place, 
 {
     match Place::new(alloc, scheme.text().as_bytes(), authority.text().as_bytes()) {
         Ok(place) => Ok(place),
-        Err(UriFault::NoMemory) => Err(ConfFault::NoMemory),
+        Err(fault) if fault.is_memory() => Err(ConfFault::NoMemory),
         Err(_) => Err(ConfFault::Range {
             member: Member::Authority,
         }),
@@ -96,11 +81,7 @@ fn authority_value(alloc: Global, scheme: &Text, value: &Value) -> Result<Place,
 fn authority_of(alloc: Global, scheme: &Text, object: &Value) -> Result<Place, ConfFault>
     ensures { Gives result (authority_of scheme.now (view object.now)) }
 {
-    let member = Member::Authority;
-    match member_of(object, member) {
-        None => Err(ConfFault::Missing { member }),
-        Some(value) => authority_value(alloc, scheme, value),
-    }
+    authority_value(alloc, scheme, required(object, Member::Authority)?)
 }
 
 fn place_of(alloc: Global, object: &Value) -> Result<Place, ConfFault>
@@ -115,10 +96,7 @@ fn audience_of(alloc: Global, object: &Value) -> Result<Text, ConfFault>
     ensures identity { IfOk result (λ audience. is_identity audience ≡ true) }
 {
     let member = Member::Audience;
-    match member_of(object, member) {
-        None => Err(ConfFault::Missing { member }),
-        Some(value) => identity_of(alloc, member, value),
-    }
+    identity_of(alloc, member, required(object, member)?)
 }
 
 fn route_in(alloc: Global, object: &Value) -> Result<Route, ConfFault>
@@ -147,17 +125,17 @@ impl Element for Route {
 
 fn routes_value(alloc: Global, value: &Value) -> Result<Rows<Route>, ConfFault>
     ensures read { Gives result (routes_value (view value.now)) }
-    ensures few { IfOk result (λ routes. length routes ≤ 16) }
+    ensures few { IfOk result (λ routes. length routes ≤ MAX_ROUTES) }
 {
-    let listed = rows_of(alloc, Member::Routes, 0, 16, value)?;
+    let listed = rows_of(alloc, Member::Routes, 0, MAX_ROUTES, value)?;
     Ok(Rows::of(listed.into_vec()))
 }
 
 pub(crate) fn routes_of(alloc: Global, object: &Value) -> Result<Rows<Route>, ConfFault>
     ensures read { Gives result (routes_of (view object.now)) }
-    ensures few { IfOk result (λ routes. length routes ≤ 16) }
+    ensures few { IfOk result (λ routes. length routes ≤ MAX_ROUTES) }
 {
-    match member_of(object, Member::Routes) {
+    match optional(object, Member::Routes) {
         None => Ok(Rows::of(Vec::new(alloc))),
         Some(value) => routes_value(alloc, value),
     }

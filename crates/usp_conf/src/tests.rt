@@ -1,4 +1,4 @@
-// Configurations that are read, and the first row that fails in the others.
+//! Configurations that are read, and the first row that fails in the others.
 use crate::{Conf, ConfFault, read_conf};
 use std::alloc::Global;
 use std::test::Fail;
@@ -91,6 +91,44 @@ fn a_text_that_is_no_json_has_no_row(rt: HostRuntime) -> Result<(), Fail> {
         let found = printed(alloc, read_conf(alloc, text))?;
         assert_eq!(rt; found.as_str(), expected);
     }
+    Ok(())
+}
+
+#[test]
+fn a_fault_says_what_to_mend(rt: HostRuntime) -> Result<(), Fail> {
+    let alloc = rt.alloc();
+    let rows: [(&[u8], &[u8], &str); 5] = [
+        (
+            b"edge",
+            b"",
+            "`edge` must be there: a text that is an identity",
+        ),
+        (
+            b"scheme",
+            b"\"scheme\":1",
+            "`scheme` is of another kind: write \"http\" or \"https\"",
+        ),
+        (
+            b"enforce",
+            b"\"enforce\":false",
+            "`enforce` is out of its range: write true, or leave it out",
+        ),
+        (
+            b"keys",
+            b"\"keys\":[{\"kid\":\"k1\",\"issuer\":\"cp\",\"secret\":\"AQ\"}]",
+            "the key `k1` needs a secret of at least 32 random bytes",
+        ),
+        (b"json", b"x", "the configuration must be JSON, in UTF-8"),
+    ];
+    for (name, row, expected) in rows {
+        let text = text_with(alloc, name, row)?;
+        let Err(fault) = read_conf(alloc, &text) else {
+            return Err(Fail::new("read"));
+        };
+        assert_eq!(rt; format!(in alloc; "{fault}")?.as_str(), expected);
+        assert!(rt; !fault.is_memory());
+    }
+    assert!(rt; ConfFault::NoMemory.is_memory());
     Ok(())
 }
 
@@ -571,11 +609,27 @@ fn a_text_has_at_most_127_levels(rt: HostRuntime) -> Result<(), Fail> {
     Ok(())
 }
 
-const EDGE_A: &[u8] =
-    b"{\"edge\":\"a\",\"scheme\":\"https\",\"keys\":[{\"kid\":\"kp\",\"issuer\":\"cp\",\"secret\":\"AQEBAQEBAQEBAQEBAQEBAQEBAQEBAQEBAQEBAQEBAQE\"},{\"kid\":\"ka\",\"issuer\":\"cdn-a\",\"secret\":\"AgICAgICAgICAgICAgICAgICAgICAgICAgICAgICAgI\"}],\"issuers\":[\"cp\",\"cdn-a\"],\"audience\":[\"cdn-a\"],\"sign_kid\":\"ka\",\"routes\":[{\"prefix\":\"/b/\",\"scheme\":\"https\",\"authority\":\"b.example\",\"kid\":\"kab\",\"issuer\":\"cdn-a\",\"secret\":\"AwMDAwMDAwMDAwMDAwMDAwMDAwMDAwMDAwMDAwMDAwM\",\"audience\":\"cdn-b\"}]}\n";
+// An edge with a route, in pieces.
+const EDGE_A: [&[u8]; 9] = [
+    b"{\"edge\":\"a\",\"scheme\":\"https\",\"keys\":[",
+    b"{\"kid\":\"kp\",\"issuer\":\"cp\",\"secret\":\"AQEBAQEBAQEBAQEBAQEBAQEBAQEBAQEBAQEBAQEBAQE\"},",
+    b"{\"kid\":\"ka\",\"issuer\":\"cdn-a\",\"secret\":\"AgICAgICAgICAgICAgICAgICAgICAgICAgICAgICAgI\"}",
+    b"],\"issuers\":[\"cp\",\"cdn-a\"],\"audience\":[\"cdn-a\"],\"sign_kid\":\"ka\",",
+    b"\"routes\":[{\"prefix\":\"/b/\",\"scheme\":\"https\",\"authority\":\"b.example\",",
+    b"\"kid\":\"kab\",\"issuer\":\"cdn-a\",",
+    b"\"secret\":\"AwMDAwMDAwMDAwMDAwMDAwMDAwMDAwMDAwMDAwMDAwM\",",
+    b"\"audience\":\"cdn-b\"}]}",
+    b"\n",
+];
 
-const EDGE_B: &[u8] =
-    b"{\"edge\":\"b\",\"scheme\":\"https\",\"keys\":[{\"kid\":\"kab\",\"issuer\":\"cdn-a\",\"secret\":\"AwMDAwMDAwMDAwMDAwMDAwMDAwMDAwMDAwMDAwMDAwM\"},{\"kid\":\"kb\",\"issuer\":\"cdn-b\",\"secret\":\"BAQEBAQEBAQEBAQEBAQEBAQEBAQEBAQEBAQEBAQEBAQ\"}],\"issuers\":[\"cdn-a\",\"cdn-b\"],\"audience\":[\"cdn-b\"],\"sign_kid\":\"kb\"}\n";
+// The edge that the route leads to, in pieces.
+const EDGE_B: [&[u8]; 5] = [
+    b"{\"edge\":\"b\",\"scheme\":\"https\",\"keys\":[",
+    b"{\"kid\":\"kab\",\"issuer\":\"cdn-a\",\"secret\":\"AwMDAwMDAwMDAwMDAwMDAwMDAwMDAwMDAwMDAwMDAwM\"},",
+    b"{\"kid\":\"kb\",\"issuer\":\"cdn-b\",\"secret\":\"BAQEBAQEBAQEBAQEBAQEBAQEBAQEBAQEBAQEBAQEBAQ\"}",
+    b"],\"issuers\":[\"cdn-a\",\"cdn-b\"],\"audience\":[\"cdn-b\"],\"sign_kid\":\"kb\"}",
+    b"\n",
+];
 
 fn has_texts(texts: &[Text], expected: &[&str]) -> bool {
     if texts.len() != expected.len() {
@@ -592,7 +646,8 @@ fn has_texts(texts: &[Text], expected: &[&str]) -> bool {
 #[test]
 fn an_edge_with_a_route_is_read(rt: HostRuntime) -> Result<(), Fail> {
     let alloc = rt.alloc();
-    let conf = read_conf(alloc, EDGE_A)?;
+    let text = joined(alloc, &EDGE_A)?;
+    let conf = read_conf(alloc, &text)?;
     assert_eq!(rt; conf.edge().text(), "a");
     assert_eq!(rt; conf.scheme().text(), "https");
     assert_eq!(rt; conf.room(), 65_536);
@@ -605,7 +660,7 @@ fn an_edge_with_a_route_is_read(rt: HostRuntime) -> Result<(), Fail> {
     assert_eq!(rt; profile.attribute.text(), b"URISigningPackage".as_slice());
     assert!(rt; has_texts(profile.issuers.rows(), &["cp", "cdn-a"]));
     assert!(rt; has_texts(profile.audience.rows(), &["cdn-a"]));
-    assert_eq!(rt; profile.extensions.listed().len(), 0);
+    assert_eq!(rt; profile.extensions.as_slice().len(), 0);
     let routes = site.routes().rows();
     assert_eq!(rt; routes.len(), 1);
     assert_eq!(rt; routes[0].prefix().text(), "/b/");
@@ -619,7 +674,8 @@ fn an_edge_with_a_route_is_read(rt: HostRuntime) -> Result<(), Fail> {
 #[test]
 fn an_edge_without_routes_is_read(rt: HostRuntime) -> Result<(), Fail> {
     let alloc = rt.alloc();
-    let conf = read_conf(alloc, EDGE_B)?;
+    let text = joined(alloc, &EDGE_B)?;
+    let conf = read_conf(alloc, &text)?;
     assert_eq!(rt; conf.edge().text(), "b");
     assert_eq!(rt; conf.site().sign(), 1);
     assert_eq!(rt; conf.site().routes().rows().len(), 0);
@@ -639,11 +695,12 @@ fn is_told(setting: &Setting, words: &str, number: u64) -> bool {
 #[test]
 fn extensions_are_kept_in_their_order(rt: HostRuntime) -> Result<(), Fail> {
     let alloc = rt.alloc();
-    let row =
-        b"\"extensions\":[{\"claim\":\"x\",\"test\":\"equals\",\"setting\":\"yes\"},{\"claim\":\"y\",\"test\":\"at_most\",\"setting\":10}]";
-    let text = text_with(alloc, b"extensions", row)?;
+    let x = b"{\"claim\":\"x\",\"test\":\"equals\",\"setting\":\"yes\"},";
+    let y = b"{\"claim\":\"y\",\"test\":\"at_most\",\"setting\":10}";
+    let row = joined(alloc, &[b"\"extensions\":[", x, y, b"]"])?;
+    let text = text_with(alloc, b"extensions", &row)?;
     let conf = read_conf(alloc, &text)?;
-    let listed = conf.site().profile().extensions.listed();
+    let listed = conf.site().profile().extensions.as_slice();
     assert_eq!(rt; listed.len(), 2);
     assert_eq!(rt; listed[0].claim.text(), "x");
     assert_eq!(rt; listed[0].kind, TestKind::Equals);

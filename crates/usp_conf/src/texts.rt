@@ -1,5 +1,5 @@
-// Members that are texts and numbers.
-ghost use Rattle.std.specs.Prelude.{◌≡◌, ◌≤◌, true, codes, IfOk};
+//! Members that are texts and numbers.
+ghost use Rattle.std.specs.Prelude.{◌≡◌, ◌≤◌, true, false, IfOk, OnOk, IfErr, None, Some};
 ghost use Rattle.std.specs.Option.{option_map};
 ghost use Rattle.serde_json.specs.Find.{get};
 ghost use Rattle.serde_json.specs.View.{view};
@@ -7,24 +7,37 @@ ghost use Rattle.usp_jws.specs.Letters.{is_identity};
 ghost use Rattle.usp_conf.specs.Answers.{Gives};
 ghost use Rattle.usp_conf.specs.Letters.{is_scheme};
 ghost use Rattle.usp_conf.specs.Members.{name_of};
-ghost use Rattle.usp_conf.specs.Texts.{text_of, identity_of, edge_of, scheme_of, attribute_of, attribute_value, number_of, room_of, enforce_value, enforce_of, scheme_value};
+ghost use Rattle.usp_conf.specs.Texts.{text_of, identity_of, edge_of, scheme_of, attribute_of, attribute_value, number_of, room_of, enforce_value, enforce_of};
+ghost use Rattle.usp_conf.specs.declared.fault.ConfFault.TheVariants as fault;
+ghost use Rattle.usp_conf.specs.declared.limits.TheConstants.{MAX_ROOM};
 
-use crate::{ConfFault, Member};
+use crate::{ConfFault, MAX_ROOM, Member};
 use serde_json::Value;
 use std::alloc::Global;
 use usp_json::Text;
 use usp_jws::is_identity;
 use usp_package::AttrName;
 
+// The name of the attribute where the configuration gives none (RFC 9246 section 4.4).
 const ATTRIBUTE: &[u8] = b"URISigningPackage";
 
-const LARGEST_ROOM: u64 = 65_536;
-
-// The member of that name.
-pub(crate) fn member_of(object: &Value, member: Member) -> Option<&Value>
+// A member that may be absent.
+pub(crate) fn optional(object: &Value, member: Member) -> Option<&Value>
     ensures { option_map (λ v. view v.now) result ≡ get (name_of member) (view object.now) }
 {
     object.get(member.name())
+}
+
+// A member that must be there.
+pub(crate) fn required(object: &Value, member: Member) -> Result<&Value, ConfFault>
+    ensures there { IfOk result (λ v. get (name_of member) (view object.now) ≡ Some (view v.now)) }
+    ensures missing { IfErr result (λ e.
+        (get (name_of member) (view object.now) ≡ None) × (e ≡ fault.Missing member)) }
+{
+    match optional(object, member) {
+        None => Err(ConfFault::Missing { member }),
+        Some(value) => Ok(value),
+    }
 }
 
 // A text.
@@ -37,15 +50,25 @@ pub(crate) fn text_of(alloc: Global, member: Member, value: &Value) -> Result<Te
     }
 }
 
+// Refuses a member whose value fails its test.
+pub(crate) fn tested(member: Member, passes: bool) -> Result<(), ConfFault>
+    ensures passed { OnOk result (passes ≡ true) }
+    ensures failed { IfErr result (λ e. (passes ≡ false) × (e ≡ fault.Range member)) }
+{
+    if passes {
+        Ok(())
+    } else {
+        Err(ConfFault::Range { member })
+    }
+}
+
 // A text that names an edge, an issuer or an audience.
 pub(crate) fn identity_of(alloc: Global, member: Member, value: &Value) -> Result<Text, ConfFault>
     ensures read { Gives result (identity_of member (view value.now)) }
     ensures identity { IfOk result (λ text. is_identity text ≡ true) }
 {
     let text = text_of(alloc, member, value)?;
-    if !is_identity(text.text().as_bytes()) {
-        return Err(ConfFault::Range { member });
-    }
+    tested(member, is_identity(text.text().as_bytes()))?;
     Ok(text)
 }
 
@@ -60,22 +83,7 @@ pub(crate) fn edge_of(alloc: Global, object: &Value) -> Result<Text, ConfFault>
     ensures identity { IfOk result (λ text. is_identity text ≡ true) }
 {
     let member = Member::Edge;
-    match member_of(object, member) {
-        None => Err(ConfFault::Missing { member }),
-        Some(value) => identity_of(alloc, member, value),
-    }
-}
-
-fn scheme_value(alloc: Global, value: &Value) -> Result<Text, ConfFault>
-    ensures read { Gives result (scheme_value (view value.now)) }
-    ensures scheme { IfOk result (λ text. is_scheme text ≡ true) }
-{
-    let member = Member::Scheme;
-    let text = text_of(alloc, member, value)?;
-    if !is_scheme(text.text().as_bytes()) {
-        return Err(ConfFault::Range { member });
-    }
-    Ok(text)
+    identity_of(alloc, member, required(object, member)?)
 }
 
 pub(crate) fn scheme_of(alloc: Global, object: &Value) -> Result<Text, ConfFault>
@@ -83,10 +91,9 @@ pub(crate) fn scheme_of(alloc: Global, object: &Value) -> Result<Text, ConfFault
     ensures scheme { IfOk result (λ text. is_scheme text ≡ true) }
 {
     let member = Member::Scheme;
-    match member_of(object, member) {
-        None => Err(ConfFault::Missing { member }),
-        Some(value) => scheme_value(alloc, value),
-    }
+    let scheme = text_of(alloc, member, required(object, member)?)?;
+    tested(member, is_scheme(scheme.text().as_bytes()))?;
+    Ok(scheme)
 }
 
 fn attribute_value(alloc: Global, value: &Value) -> Result<AttrName, ConfFault>
@@ -103,7 +110,7 @@ fn attribute_value(alloc: Global, value: &Value) -> Result<AttrName, ConfFault>
 pub(crate) fn attribute_of(alloc: Global, object: &Value) -> Result<AttrName, ConfFault>
     ensures { Gives result (attribute_of (view object.now)) }
 {
-    match member_of(object, Member::Attribute) {
+    match optional(object, Member::Attribute) {
         None => Ok(AttrName::new(ATTRIBUTE).unwrap()),
         Some(value) => attribute_value(alloc, value),
     }
@@ -124,11 +131,8 @@ pub(crate) fn number_of(
         Some(number) => match number.as_u64() {
             None => Err(ConfFault::Range { member }),
             Some(number) => {
-                if least <= number && number <= most {
-                    Ok(number)
-                } else {
-                    Err(ConfFault::Range { member })
-                }
+                tested(member, least <= number && number <= most)?;
+                Ok(number)
             }
         },
     }
@@ -136,14 +140,14 @@ pub(crate) fn number_of(
 
 pub(crate) fn room_of(object: &Value) -> Result<u32, ConfFault>
     ensures read { Gives result (room_of (view object.now)) }
-    ensures bounds { IfOk result (λ n. (1 ≤ n) × (n ≤ 65536)) }
+    ensures bounds { IfOk result (λ n. (1 ≤ n) × (n ≤ MAX_ROOM)) }
 {
-    match member_of(object, Member::Room) {
-        None => Ok(LARGEST_ROOM as u32),
-        Some(value) => match number_of(Member::Room, 1, LARGEST_ROOM, value) {
-            Ok(room) => Ok(room as u32),
-            Err(fault) => Err(fault),
-        },
+    match optional(object, Member::Room) {
+        None => Ok(MAX_ROOM),
+        Some(value) => {
+            let room = number_of(Member::Room, 1, MAX_ROOM as u64, value)?;
+            Ok(room as u32)
+        }
     }
 }
 
@@ -153,8 +157,10 @@ fn enforce_value(value: &Value) -> Result<bool, ConfFault>
     let member = Member::Enforce;
     match value.as_bool() {
         None => Err(ConfFault::Kind { member }),
-        Some(true) => Ok(true),
-        Some(false) => Err(ConfFault::Range { member }),
+        Some(on) => {
+            tested(member, on)?;
+            Ok(on)
+        }
     }
 }
 
@@ -162,7 +168,7 @@ fn enforce_value(value: &Value) -> Result<bool, ConfFault>
 pub(crate) fn enforce_of(object: &Value) -> Result<bool, ConfFault>
     ensures { Gives result (enforce_of (view object.now)) }
 {
-    match member_of(object, Member::Enforce) {
+    match optional(object, Member::Enforce) {
         None => Ok(true),
         Some(value) => enforce_value(value),
     }

@@ -2,6 +2,7 @@
 use Rattle.std.proofs.Common.{IfOk, ◌≡◌, inl, inr, ℕ, true, false, ◌||◌, List, [], ◌∷◌, ◌++◌, Option, Some, None, Result, Ok, Err, slice_get, refl, sym, ap, ◌∙◌, subst}
 use Rattle.std.specs.Option.{is_some}
 use Rattle.std.specs.Result.{result_ok}
+use Rattle.std.proofs.lemmas.Option.{same_Some}
 use Rattle.usp_json.specs.declared.value.Members.{Members}
 use Rattle.usp_jws.specs.Compact.{IsToken}
 use Rattle.usp_jws.specs.Headers.{IsHeader}
@@ -12,8 +13,8 @@ use Rattle.usp_uri.specs.Faults.{normal_of}
 use Rattle.usp_uri.specs.declared.fault.UriFault.{UriFault}
 use Rattle.usp_rules.specs.Asks.{AskValue, Presented, has_package, presented_in}
 use Rattle.usp_rules.specs.Constraints.{IsContained}
-use Rattle.usp_rules.specs.Judging.{Judges, JudgesBy, JudgesWith, PassesWith}
-use Rattle.usp_rules.specs.Rules.{HoldsWith, IsFirst, Meets, OfToken, TokenHolds, Wants, constraints, rules_of_package, rules_of_parts, rules_of_token}
+use Rattle.usp_rules.specs.Judging.{Judges, JudgesAll, JudgesBy, JudgesWith, PassesWith}
+use Rattle.usp_rules.specs.Rules.{HoldsWith, IsFirst, Meets, OfToken, TokenHolds, Wants, constraints, rules_of_ask, rules_of_package, rules_of_parts, rules_of_token}
 use Rattle.usp_rules.specs.Tokens.{Claims, HasClaims, HasHeader, HasParts, IsVerified, verifying}
 use Rattle.usp_rules.specs.declared.fault.NoMemory.{NoMemory}
 use Rattle.usp_rules.specs.declared.judged.Judged.{Judged}
@@ -33,9 +34,6 @@ first_same P Q f g [] found h = h
 first_same P Q f g (r ∷ rs) found (inl h) = inl (f r h.0, first_same P Q f g rs found h.1)
 first_same P Q f g (r ∷ rs) found (inr h) = inr ((λ q. h.0 (g r q)), h.1)
 
-some_key : (a b : KeyValue) → Some a ≡ Some b → a ≡ b
-some_key a b e = cc
-
 -- what a rule wants of the claims that are known
 wants_known : (r : Rule) (profile : Profile) (shown : Presented) (members : Members) (place : ℕ) (key : KeyValue)
     → Claims shown.token members → IsVerified profile.ring shown.token place → slice_get profile.ring place ≡ Some key
@@ -43,7 +41,7 @@ wants_known : (r : Rule) (profile : Profile) (shown : Presented) (members : Memb
 wants_known r profile shown members place key claims verified at m =
     let these : m.members ≡ members = one_claims shown.token m.members members m.claims claims in
     let here : m.place ≡ place = one_place profile.ring shown.token m.place place m.verified verified in
-    let same : m.key ≡ key = some_key m.key key (sym m.at ∙ (ap (slice_get profile.ring) here ∙ at)) in
+    let same : m.key ≡ key = same_Some m.key key (sym m.at ∙ (ap (slice_get profile.ring) here ∙ at)) in
     subst (λ k. Wants r profile k.issuer members shown.content shown.moment) same
     (subst (λ ms. Wants r profile m.key.issuer ms shown.content shown.moment) these m.wants)
 
@@ -89,46 +87,60 @@ of_token profile ask pack shown (Ok (Passed content token members place)) presen
   record { shown = shown; presents = presents; tells = h.1 },
 )
 
--- an ask without a package, and with a cookie or without one
-pub of_cookie : (profile : Profile) (ask : AskValue) (token uri : List ℕ) (judged : Result Judged NoMemory) (moment : ℕ)
-    → ask.cookie ≡ Some token → normal_of ask.uri ≡ Ok uri → moment ≡ ask.moment
-    → IfOk judged (λ j. JudgesBy rules_of_token profile (record { token = token; content = Some uri; moment = moment }) j)
-    → IfOk judged (λ j. JudgesWith profile ask nothing j)
-of_cookie profile ask token uri judged moment some normal at h =
-    of_token profile ask nothing (record { token = token; content = Some uri; moment = moment }) judged (rw (some, normal, at) refl) (rw some refl) h
+-- ---- rules 1 to 15
 
-pub missing : (profile : Profile) (ask : AskValue) → ask.cookie ≡ None → JudgesWith profile ask nothing (Denied rule.Missing)
-missing profile ask none =
-    inr ((λ h. let both : is_some ask.cookie ≡ false = ap is_some none in let differ : true ≡ false = sym h ∙ both in cc), refl)
-
-pub bad_package : (profile : Profile) (ask : AskValue) (at : ℕ) → JudgesWith profile ask (bad at) (Denied rule.Package)
-bad_package profile ask at = inl (refl, inr ((λ h. h), refl))
-
--- an ask with a package
-pub of_carried : (profile : Profile) (ask : AskValue) (token before after : List ℕ) (content : Option (List ℕ)) (judged : Result Judged NoMemory) (moment : ℕ)
-    → content ≡ result_ok (normal_of (before ++ after)) → moment ≡ ask.moment
-    → IfOk judged (λ j. JudgesBy rules_of_token profile (record { token = token; content = content; moment = moment }) j)
-    → IfOk judged (λ j. JudgesWith profile ask (carried token before after) j)
-of_carried profile ask token before after content judged moment left at h =
-    of_token profile ask (carried token before after) (record { token = token; content = content; moment = moment }) judged (rw (left, at) refl) refl h
-
--- the verdict on an ask whose URI has a normal form is that with its package
-pub of_package : (profile : Profile) (ask : AskValue) (pack : Package) (uri : List ℕ) (judged : Result Judged NoMemory) → normal_of ask.uri ≡ Ok uri
-    → pack ≡ package_of profile.attribute ask.uri → IfOk judged (λ j. JudgesWith profile ask pack j) → IfOk judged (λ j. Judges profile ask j)
-of_package profile ask pack uri (Err e) normal is h = h
-of_package profile ask pack uri (Ok (Denied denied)) normal is h =
-    inl ((uri, normal), subst (λ p. IsFirst (λ r. HoldsWith r profile ask p) rules_of_package (Some denied)) is h)
-of_package profile ask pack uri (Ok (Passed content token members place)) normal is h = (
-  inl ((uri, normal), subst (λ p. IsFirst (λ r. HoldsWith r profile ask p) rules_of_package None) is h.0),
-  subst (λ p. PassesWith profile ask p content token members place) is h.1,
-)
+-- where the URI has a normal form, the others decide
+of_uri : (profile : Profile) (ask : AskValue) (pack : Package) (uri : List ℕ) (judged : Result Judged NoMemory) → normal_of ask.uri ≡ Ok uri
+    → IfOk judged (λ j. JudgesWith profile ask pack j) → IfOk judged (λ j. JudgesAll profile ask pack j)
+of_uri profile ask pack uri (Err e) normal h = h
+of_uri profile ask pack uri (Ok (Denied denied)) normal h = inl ((uri, normal), h)
+of_uri profile ask pack uri (Ok (Passed content token members place)) normal h = (inl ((uri, normal), h.0), h.1)
 
 no_normal : (n : Result (List ℕ) UriFault) → result_ok n ≡ None → ((uri : List ℕ) × (n ≡ Ok uri)) → ⊥
 no_normal (Ok uri) e has = let differ : Some uri ≡ None = e in cc
 no_normal (Err fault) e has = let differ : Err fault ≡ Ok has.0 = has.1 in cc
 
-pub no_uri : (profile : Profile) (ask : AskValue) → result_ok (normal_of ask.uri) ≡ None → Judges profile ask (Denied rule.Uri)
-no_uri profile ask none = inr ((λ has. no_normal (normal_of ask.uri) none has), refl)
+pub no_uri : (profile : Profile) (ask : AskValue) (pack : Package) → (((uri : List ℕ) × (normal_of ask.uri ≡ Ok uri)) → ⊥)
+    → JudgesAll profile ask pack (Denied rule.Uri)
+no_uri profile ask pack none = inr (none, refl)
+
+pub no_normal_form : (profile : Profile) (ask : AskValue) (pack : Package) → result_ok (normal_of ask.uri) ≡ None → JudgesAll profile ask pack (Denied rule.Uri)
+no_normal_form profile ask pack none = no_uri profile ask pack (no_normal (normal_of ask.uri) none)
+
+-- an ask without a package, and with a cookie or without one
+pub of_cookie : (profile : Profile) (ask : AskValue) (token uri : List ℕ) (judged : Result Judged NoMemory) (moment : ℕ)
+    → ask.cookie ≡ Some token → normal_of ask.uri ≡ Ok uri → moment ≡ ask.moment
+    → IfOk judged (λ j. JudgesBy rules_of_token profile (record { token = token; content = Some uri; moment = moment }) j)
+    → IfOk judged (λ j. JudgesAll profile ask nothing j)
+of_cookie profile ask token uri judged moment some normal at h =
+    of_uri profile ask nothing uri judged normal
+    (of_token profile ask nothing (record { token = token; content = Some uri; moment = moment }) judged (rw (some, normal, at) refl) (rw some refl) h)
+
+pub missing : (profile : Profile) (ask : AskValue) (uri : List ℕ) → normal_of ask.uri ≡ Ok uri → ask.cookie ≡ None → JudgesAll profile ask nothing (Denied rule.Missing)
+missing profile ask uri normal none =
+    inl ((uri, normal), inr ((λ h. let both : is_some ask.cookie ≡ false = ap is_some none in let differ : true ≡ false = sym h ∙ both in cc), refl))
+
+pub bad_package : (profile : Profile) (ask : AskValue) (uri : List ℕ) (at : ℕ) → normal_of ask.uri ≡ Ok uri → JudgesAll profile ask (bad at) (Denied rule.Package)
+bad_package profile ask uri at normal = inl ((uri, normal), inl (refl, inr ((λ h. h), refl)))
+
+-- an ask with a package
+pub of_carried : (profile : Profile) (ask : AskValue) (token before after uri : List ℕ) (content : Option (List ℕ)) (judged : Result Judged NoMemory) (moment : ℕ)
+    → normal_of ask.uri ≡ Ok uri → content ≡ result_ok (normal_of (before ++ after)) → moment ≡ ask.moment
+    → IfOk judged (λ j. JudgesBy rules_of_token profile (record { token = token; content = content; moment = moment }) j)
+    → IfOk judged (λ j. JudgesAll profile ask (carried token before after) j)
+of_carried profile ask token before after uri content judged moment normal left at h =
+    of_uri profile ask (carried token before after) uri judged normal
+    (of_token profile ask (carried token before after) (record { token = token; content = content; moment = moment }) judged (rw (left, at) refl) refl h)
+
+-- the verdict on an ask is that with its package
+pub of_package : (profile : Profile) (ask : AskValue) (pack : Package) (judged : Result Judged NoMemory)
+    → pack ≡ package_of profile.attribute ask.uri → IfOk judged (λ j. JudgesAll profile ask pack j) → IfOk judged (λ j. Judges profile ask j)
+of_package profile ask pack (Err e) is h = h
+of_package profile ask pack (Ok (Denied denied)) is h = subst (λ p. IsFirst (λ r. HoldsWith r profile ask p) rules_of_ask (Some denied)) is h
+of_package profile ask pack (Ok (Passed content token members place)) is h = (
+  subst (λ p. IsFirst (λ r. HoldsWith r profile ask p) rules_of_ask None) is h.0,
+  subst (λ p. PassesWith profile ask p content token members place) is h.1,
+)
 
 -- ---- rules 7 to 15
 

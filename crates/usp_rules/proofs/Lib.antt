@@ -5,3 +5,5 @@ pub mod Single
 pub mod Firsts
 pub mod Wanted
 pub mod Verdicts
+pub mod Admitting
+pub mod Segments

@@ -1,6 +1,7 @@
 -- Which contents a container meets.
-use Rattle.std.proofs.Common.{true, false, eqb, Bool, IsTrue, IfOk, Result, Ok, Err, ◌≡◌, ◌↔◌, inl, inr, ℕ, ◌<◌, List, ◌++◌, codes, Some, None, get_or, sym, ap, ◌∙◌, subst, arith}
+use Rattle.std.proofs.Common.{true, false, eqb, Bool, IsTrue, IfOk, Result, Ok, Err, ◌≡◌, ◌≢◌, ◌↔◌, inl, inr, ℕ, ◌<◌, List, ◌++◌, codes, Some, None, get_or, refl, sym, ap, ◌∙◌, subst, arith}
 use Rattle.usp_ere.specs.declared.fault.EreFault.{EreFault}
+use Rattle.usp_ere.specs.declared.limits.TheConstants.{MAX_SIZE}
 use Rattle.usp_ere.specs.declared.fault.EreFault.TheVariants.{Syntax, Undefined, Repeat, TooLarge, NoMemory}
 use Rattle.usp_ere.specs.Compiled.{Compiles, IsRefusedFor}
 use Rattle.usp_ere.specs.Expression.{Expr, Finds, size_of}
@@ -8,7 +9,7 @@ use Rattle.usp_ere.specs.Faults.{fault_of}
 use Rattle.usp_ere.proofs.Reading.{one_tree}
 use Rattle.usp_ere.specs.declared.ere.Ere.{Ere}
 use Rattle.usp_ere.specs.Compiled.{expression_of}
-use Rattle.usp_rules.specs.Kinds.{MeetsAs, ReadsAs, wants_memory}
+use Rattle.usp_rules.specs.Kinds.{MeetsAs, ReadsAs}
 use Rattle.usp_rules.specs.declared.container.Container.{Container}
 use Rattle.usp_rules.specs.declared.container.Container.TheVariants.{Regex}
 use Rattle.usp_rules.specs.declared.fault.NoMemory.{NoMemory as Unmet}
@@ -59,11 +60,11 @@ some_fault : (text : List ℕ) (fault : EreFault) (e : Expr) → fault_of text �
 some_fault text fault e is compiles = let both : None ≡ Some fault = sym compiles.spelled.0 ∙ is in cc
 
 -- what is refused for another cause than memory compiles to nothing
-pub not_compiled : (text : List ℕ) (fault : EreFault) → IsRefusedFor text fault → wants_memory fault ≡ false → (e : Expr) → Compiles text e → ⊥
-not_compiled text NoMemory refused other e compiles = let differ : true ≡ false = other in cc
+pub not_compiled : (text : List ℕ) (fault : EreFault) → IsRefusedFor text fault → fault ≢ NoMemory → (e : Expr) → Compiles text e → ⊥
+not_compiled text NoMemory refused other e compiles = other refl
 not_compiled text TooLarge refused other e compiles =
     let same : refused.0 ≡ e = one_tree refused.0 e _ refused.1.1 compiles.spelled.1 in
-    let large : 4000 < size_of e = subst (λ x. 4000 < size_of x) same refused.2 in
+    let large : MAX_SIZE < size_of e = subst (λ x. MAX_SIZE < size_of x) same refused.2 in
     omega (arith, large, compiles.small)
 not_compiled text (Syntax at) refused other e compiles = some_fault text (Syntax at) e refused compiles
 not_compiled text (Undefined at) refused other e compiles = some_fault text (Undefined at) e refused compiles

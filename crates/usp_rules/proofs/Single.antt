@@ -1,5 +1,6 @@
 -- A token has one list of parts, one header, one key that verifies it, and one list of claims.
 use Rattle.std.proofs.Common.{◌≡◌, ℕ, List, Option, Some, sym, ap, ◌∙◌, subst}
+use Rattle.std.proofs.lemmas.Option.{same_Some}
 use Rattle.usp_json.proofs.FaultLaws.{reads_once}
 use Rattle.usp_json.specs.Spells.{IsReading, given}
 use Rattle.usp_json.specs.declared.value.Members.{Members}
@@ -53,9 +54,6 @@ pub header_at : (token : List ℕ) (parts : PartsValue) (kid : Option (List ℕ)
 header_at token parts kid split h =
     subst (λ parts. IsHeader parts.header kid) (one_parts token h.parts parts h.split split) h.header
 
-some_same : {X : Type 0} (a b : X) → Some a ≡ Some b → a ≡ b
-some_same a b e = cc
-
 -- the key that verifies is found by the token's own parts and name of a key
 pub verified_at : (ring : List KeyValue) (token : List ℕ) (place : ℕ) (parts : PartsValue) (kid : Option (List ℕ))
     → HasParts token parts → IsHeader parts.header kid → IsVerified ring token place → verifying ring kid parts ≡ Some place
@@ -66,4 +64,4 @@ verified_at ring token place parts kid split header h =
     sym (ap (λ k. verifying ring k parts) kids) ∙ (sym (ap (λ p. verifying ring h.kid p) same) ∙ h.first)
 
 pub one_place : (ring : List KeyValue) (token : List ℕ) (i j : ℕ) → IsVerified ring token i → IsVerified ring token j → i ≡ j
-one_place ring token i j h k = some_same i j (sym (verified_at ring token i k.parts k.kid k.split k.header h) ∙ k.first)
+one_place ring token i j h k = same_Some i j (sym (verified_at ring token i k.parts k.kid k.split k.header h) ∙ k.first)

@@ -1,6 +1,7 @@
 -- One first rule that fails, one verdict, and what passing says.
 use Rattle.std.proofs.Common.{◌≡◌, inl, inr, ℕ, true, ◌||◌, List, [], ◌∷◌, ◌++◌, Option, Some, None, Ok, refl, sym, ap, ◌∙◌, subst}
 use Rattle.std.specs.Option.{is_some, option_map}
+use Rattle.std.proofs.lemmas.Option.{same_Some}
 use Rattle.usp_json.specs.declared.value.Members.{Members}
 use Rattle.usp_package.specs.Package.{Package, nothing, bad, carried, package_of}
 use Rattle.usp_uri.specs.Faults.{normal_of}
@@ -36,9 +37,6 @@ pub none_of_all : (P : Rule → Type 0) (rules : List Rule) → AllHold P rules 
 none_of_all P [] h = refl
 none_of_all P (r ∷ rs) h = inl (h.0, none_of_all P rs h.1)
 
-same_rule : (a b : Rule) → Some a ≡ Some b → a ≡ b
-same_rule a b e = cc
-
 breaks_here : (P : Rule → Type 0) (r broken : Rule) (rs : List Rule) → broken ≡ r → (P r → ⊥) → Breaks P (r ∷ rs) broken
 breaks_here P r broken rs e never = record { before = []; after = rs; listed = ap (λ x. x ∷ rs) (sym e); hold = tt; fails = subst (λ x. P x → ⊥) (sym e) never }
 
@@ -52,7 +50,7 @@ none_listed P broken h = absurd (none_is_no_rule broken (sym h))
 pub breaks : (P : Rule → Type 0) (rules : List Rule) (broken : Rule) → IsFirst P rules (Some broken) → Breaks P rules broken
 breaks P [] broken h = none_listed P broken h
 breaks P (r ∷ rs) broken (inl h) = breaks_later P r broken rs h.0 (breaks P rs broken h.1)
-breaks P (r ∷ rs) broken (inr h) = breaks_here P r broken rs (same_rule broken r h.1) h.0
+breaks P (r ∷ rs) broken (inr h) = breaks_here P r broken rs (same_Some broken r h.1) h.0
 
 first_behind : (P : Rule → Type 0) (before after : List Rule) (broken : Rule) → AllHold P before → (P broken → ⊥) → IsFirst P (before ++ broken ∷ after) (Some broken)
 first_behind P [] after broken all fails = inr (fails, refl)
@@ -64,20 +62,14 @@ broken_first P rules broken b =
 
 -- ---- verdicts
 
-some_shown : (a b : Presented) → Some a ≡ Some b → a ≡ b
-some_shown a b e = cc
-
-some_list : (a b : List ℕ) → Some a ≡ Some b → a ≡ b
-some_list a b e = cc
-
 same_passed : (c d t u : List ℕ) (m n : Members) (i j : ℕ) → c ≡ d → t ≡ u → m ≡ n → i ≡ j → Passed c t m i ≡ Passed d u n j
 same_passed c d t u m n i j a b e f = cc
 
 one_passed : (profile : Profile) (ask : AskValue) (pack : Package) (c d t u : List ℕ) (m n : Members) (i j : ℕ)
     → PassesWith profile ask pack c t m i → PassesWith profile ask pack d u n j → Passed c t m i ≡ Passed d u n j
 one_passed profile ask pack c d t u m n i j h k =
-    let shown : h.shown ≡ k.shown = some_shown h.shown k.shown (sym h.presents ∙ k.presents) in
-    let uri : c ≡ d = some_list c d (sym h.tells.uri ∙ (ap (λ s. s.content) shown ∙ k.tells.uri)) in
+    let shown : h.shown ≡ k.shown = same_Some h.shown k.shown (sym h.presents ∙ k.presents) in
+    let uri : c ≡ d = same_Some c d (sym h.tells.uri ∙ (ap (λ s. s.content) shown ∙ k.tells.uri)) in
     let text : t ≡ u = sym h.tells.text ∙ (ap (λ s. s.token) shown ∙ k.tells.text) in
     let token : h.shown.token ≡ k.shown.token = ap (λ s. s.token) shown in
     let claims : m ≡ n = one_claims k.shown.token m n (subst (λ x. Claims x m) token h.tells.claims) k.tells.claims in
@@ -86,7 +78,7 @@ one_passed profile ask pack c d t u m n i j h k =
 
 pub one_verdict : (profile : Profile) (ask : AskValue) (a b : Judged) → Judges profile ask a → Judges profile ask b → a ≡ b
 one_verdict profile ask (Denied r) (Denied s) h k =
-    ap Denied (same_rule r s (first_once (λ x. Holds x profile ask) rules_of_ask (Some r) (Some s) h k))
+    ap Denied (same_Some r s (first_once (λ x. Holds x profile ask) rules_of_ask (Some r) (Some s) h k))
 one_verdict profile ask (Denied r) (Passed d u n j) h k =
     absurd (none_is_no_rule r (first_once (λ x. Holds x profile ask) rules_of_ask None (Some r) k.0 h))
 one_verdict profile ask (Passed c t m i) (Denied s) h k =

@@ -1,10 +1,10 @@
 -- What the claims want, case by case.
 use Rattle.std.proofs.Common.{IfOk, IsTrue, ◌≡◌, ◌↔◌, ◌∙◌, ℕ, Bool, true, false, codes, List, [], ◌∷◌, map, drop, length, get_or, ◌<◌, ◌≤◌, Option, Some, None, Result, Ok, Err, refl, sym, ap, subst}
 use Rattle.std.proofs.lemmas.List.{drop_all}
-use Rattle.std.proofs.lemmas.Option.{slice_get-get_or}
+use Rattle.std.proofs.lemmas.Option.{same_Some, slice_get-get_or}
 use Rattle.std.specs.List.{list_all, list_any}
 use Rattle.std.specs.Option.{option_map_or}
-use Rattle.usp_claims.proofs.Rows.{all_stops}
+use Rattle.usp_json.proofs.ListLaws.{all_stops}
 use Rattle.usp_claims.specs.Table.{is_audience, text_claim}
 use Rattle.usp_json.specs.declared.value.Json.{Json}
 use Rattle.usp_json.specs.declared.value.Members.{Members}
@@ -24,9 +24,6 @@ pub all_mapped : {X Y : Type 0} (p : Y → Bool) (f : X → Y) (xs : List X) →
 all_mapped p f [] = refl
 all_mapped p f (x ∷ xs) = rw (all_mapped p f xs) refl
 
-some_text : (a b : List ℕ) → Some a ≡ Some b → a ≡ b
-some_text a b e = cc
-
 contained : (members : Members) (content container : List ℕ) → text_claim (codes "cdniuc") members ≡ Some container → Meets container content
     → IsContained (Some content) members
 contained members content container claimed met = record { uri = content; container = container; there = refl; claimed = claimed; meets = met }
@@ -34,8 +31,8 @@ contained members content container claimed met = record { uri = content; contai
 meets : (members : Members) (content container : List ℕ) → text_claim (codes "cdniuc") members ≡ Some container → IsContained (Some content) members
     → Meets container content
 meets members content container claimed h =
-    let here : h.uri ≡ content = some_text h.uri content (sym h.there) in
-    let this : h.container ≡ container = some_text h.container container (sym h.claimed ∙ claimed) in
+    let here : h.uri ≡ content = same_Some h.uri content (sym h.there) in
+    let this : h.container ≡ container = same_Some h.container container (sym h.claimed ∙ claimed) in
     subst (λ c. Meets c content) this (subst (λ u. Meets h.container u) here h.meets)
 
 -- the container of the claims decides

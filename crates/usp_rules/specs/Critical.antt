@@ -10,9 +10,13 @@ use Rattle.usp_ext.specs.declared.kinds.Extension.{Extension}
 use Rattle.usp_json.specs.declared.value.Json.{Json}
 use Rattle.usp_json.specs.declared.value.Members.{Members}
 
+-- `,`
+abbrev pub comma : ℕ
+comma = 44
+
 -- the names of the list, which commas part, without the spaces and tabs at their ends
 abbrev pub names_in : List ℕ → List (List ℕ)
-names_in text = map trim_blanks (slice_split (λ b. b == 44) text)
+names_in text = map trim_blanks (slice_split (λ b. b == comma) text)
 
 -- the name stands once among these
 abbrev pub stands_once : List ℕ → List (List ℕ) → Bool
@@ -27,10 +31,13 @@ abbrev pub passes_test : List Extension → List ℕ → List ℕ → Option Jso
 passes_test extensions path name value =
     option_map_or (λ value. unwrap_or (means_of extensions name value path) false) value false
 
--- The name is not empty, stands once among these, is no claim of the standard, and is a claim of the token whose test answers yes.
+-- The name is not empty, stands once among these, is no claim of the standard, and is a claim of the token
+-- whose test answers yes.
 abbrev pub is_understood : List Extension → List ℕ → Members → List (List ℕ) → List ℕ → Bool
 is_understood extensions path members names name =
-    not (length name == 0) && (stands_once name names && (not (is_standard name) && passes_test extensions path name (claim name members)))
+    not (length name == 0)
+    && (stands_once name names
+    && (not (is_standard name) && passes_test extensions path name (claim name members)))
 
 -- each name of the list is understood
 abbrev pub are_understood : List Extension → List ℕ → Members → List (List ℕ) → Bool

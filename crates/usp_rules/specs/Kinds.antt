@@ -1,9 +1,7 @@
 -- What a container text is read as.
-use Rattle.std.specs.Prelude.{◌≡◌, ℕ, Bool, true, false, List, ◌++◌, codes, Option, Some, None}
+use Rattle.std.specs.Prelude.{◌≡◌, ℕ, List, ◌++◌, codes, Option, Some, None}
 use Rattle.usp_ere.specs.Expression.{Expr, Finds}
 use Rattle.usp_ere.specs.declared.ere.Ere.{Ere}
-use Rattle.usp_ere.specs.declared.fault.EreFault.{EreFault}
-use Rattle.usp_ere.specs.declared.fault.EreFault.TheVariants.{Syntax, Undefined, Repeat, TooLarge, NoMemory}
 use Rattle.usp_ere.specs.Compiled.{Compiles, expression_of}
 use Rattle.usp_rules.specs.Segment.{segment_of}
 use Rattle.usp_rules.specs.declared.container.Container.{Container}
@@ -12,7 +10,8 @@ use Rattle.usp_rules.specs.declared.container.Container.TheVariants.{Hash, Regex
 -- The text is `hash:` and a segment, or `regex:` and an expression, or refused, which meets nothing.
 abbrev pub ReadsAs : List ℕ → Container → Type 0
 ReadsAs text (Hash segment) = text ≡ codes "hash:" ++ segment
-ReadsAs text (Regex ere) = (expression : List ℕ) × (text ≡ codes "regex:" ++ expression) × Compiles expression (expression_of ere)
+ReadsAs text (Regex ere) =
+    (expression : List ℕ) × (text ≡ codes "regex:" ++ expression) × Compiles expression (expression_of ere)
 ReadsAs text Refused =
     ((segment : List ℕ) → text ≡ codes "hash:" ++ segment → ⊥)
     × ((expression : List ℕ) (e : Expr) → text ≡ codes "regex:" ++ expression → Compiles expression e → ⊥)
@@ -27,11 +26,3 @@ MeetsAs Refused uri = ⊥
 abbrev pub IsCompiled : List ℕ → Option Ere → Type 0
 IsCompiled text None = (e : Expr) → Compiles text e → ⊥
 IsCompiled text (Some ere) = Compiles text (expression_of ere)
-
--- the fault is want of memory
-abbrev pub wants_memory : EreFault → Bool
-wants_memory NoMemory = true
-wants_memory TooLarge = false
-wants_memory (Syntax at) = false
-wants_memory (Undefined at) = false
-wants_memory (Repeat at) = false

@@ -4,7 +4,6 @@ pub mod Containers
 pub mod Critical
 pub mod Judging
 pub mod Kinds
-pub mod Memory
 pub mod Names
 pub mod Rules
 pub mod Segment

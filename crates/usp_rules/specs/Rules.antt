@@ -16,7 +16,8 @@ use Rattle.usp_rules.specs.declared.rule.Rule.TheVariants as rule
 -- Of the rules, in this order, the first that does not hold. None where each holds.
 abbrev pub IsFirst : (Rule → Type 0) → List Rule → Option Rule → Type 0
 IsFirst Holds [] found = found ≡ None
-IsFirst Holds (rule ∷ rules) found = (Holds rule × IsFirst Holds rules found) ⊎ ((Holds rule → ⊥) × (found ≡ Some rule))
+IsFirst Holds (rule ∷ rules) found =
+    (Holds rule × IsFirst Holds rules found) ⊎ ((Holds rule → ⊥) × (found ≡ Some rule))
 
 abbrev pub AllHold : (Rule → Type 0) → List Rule → Type 0
 AllHold Holds [] = Unit {0}
@@ -30,10 +31,13 @@ pub record Breaks (Holds : Rule → Type 0) (rules : List Rule) (broken : Rule) 
   pub hold : AllHold Holds before
   pub fails : Holds broken → ⊥
 
--- What a rule wants of claims, where the key that verifies has this issuer.
-abbrev pub Wants : Rule → Profile → (issuer : List ℕ) → Members → (content : Option (List ℕ)) → (moment : ℕ) → Type 0
+-- What a rule from Version to Container wants of claims, where the key that verifies has this issuer. No
+-- other rule is one of claims, so none has what it wants.
+abbrev pub Wants : Rule → Profile → (issuer : List ℕ) → Members → (content : Option (List ℕ)) → (moment : ℕ)
+    → Type 0
 Wants rule.Version profile issuer members content moment = is_version_1 members ≡ true
-Wants rule.Critical profile issuer members content moment = is_critical_met profile.extensions content members ≡ true
+Wants rule.Critical profile issuer members content moment =
+    is_critical_met profile.extensions content members ≡ true
 Wants rule.Encrypted profile issuer members content moment = is_plain members ≡ true
 Wants rule.Issuer profile issuer members content moment = is_issued profile.issuers issuer members ≡ true
 Wants rule.Audience profile issuer members content moment = is_for profile.audience members ≡ true
@@ -41,7 +45,7 @@ Wants rule.NotBefore profile issuer members content moment = is_begun moment mem
 Wants rule.Expired profile issuer members content moment = is_unexpired moment members ≡ true
 Wants rule.Renewal profile issuer members content moment = is_renewable members ≡ true
 Wants rule.Container profile issuer members content moment = IsContained content members
-Wants other profile issuer members content moment = Unit {0}
+Wants other profile issuer members content moment = ⊥
 
 -- The token has claims and a key that verifies it, and the rule has what it wants of them.
 pub record Meets (rule : Rule) (profile : Profile) (shown : Presented) : Type 0 where
@@ -53,7 +57,8 @@ pub record Meets (rule : Rule) (profile : Profile) (shown : Presented) : Type 0 
   pub at : slice_get profile.ring place ≡ Some key
   pub wants : Wants rule profile key.issuer members shown.content shown.moment
 
--- A rule of a token, a content and a moment, from Package on. It looks at nothing else of an ask.
+-- A rule of a token, a content and a moment, from Package to Container. It looks at nothing else of an ask.
+-- No other rule holds of these.
 abbrev pub TokenHolds : Rule → Profile → Presented → Type 0
 TokenHolds rule.Package profile shown = IsToken shown.token
 TokenHolds rule.Header profile shown = (kid : Option (List ℕ)) × HasHeader shown.token kid
@@ -66,7 +71,7 @@ abbrev pub OfToken : (Presented → Type 0) → Option Presented → Type 0
 OfToken P None = ⊥
 OfToken P (Some shown) = P shown
 
--- A rule of an ask with this package.
+-- A rule of an ask with this package, from Uri to Container.
 abbrev pub HoldsWith : Rule → Profile → AskValue → Package → Type 0
 HoldsWith rule.Uri profile ask pack = (normal : List ℕ) × (normal_of ask.uri ≡ Ok normal)
 HoldsWith rule.Missing profile ask pack = (has_package pack || is_some ask.cookie) ≡ true
@@ -77,7 +82,9 @@ Holds rule profile ask = HoldsWith rule profile ask (package_of profile.attribut
 
 -- rules 7 to 15, 4 to 15, 3 to 15, 2 to 15, and 1 to 15
 abbrev pub constraints : List Rule
-constraints = rule.Version ∷ rule.Critical ∷ rule.Encrypted ∷ rule.Issuer ∷ rule.Audience ∷ rule.NotBefore ∷ rule.Expired ∷ rule.Renewal ∷ rule.Container ∷ []
+constraints =
+    rule.Version ∷ rule.Critical ∷ rule.Encrypted ∷ rule.Issuer ∷ rule.Audience ∷ rule.NotBefore
+    ∷ rule.Expired ∷ rule.Renewal ∷ rule.Container ∷ []
 
 abbrev pub rules_of_parts : List Rule
 rules_of_parts = rule.Header ∷ rule.Signature ∷ rule.Claims ∷ constraints

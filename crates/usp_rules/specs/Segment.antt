@@ -1,4 +1,4 @@
--- The segment form of a hash name (RFC 6920 section 5).
+-- The segment form of a hash name (RFC 6920 section 5), of SHA-256 (FIPS 180-4).
 use Rattle.std.specs.Prelude.{ℕ, List, ◌++◌, codes}
 use Rattle.sha2.specs.Sha256.{sha256}
 use Rattle.usp_jws.specs.Base64url.{b64u}

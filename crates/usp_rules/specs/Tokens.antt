@@ -2,6 +2,7 @@
 use Rattle.std.specs.Prelude.{◌≡◌, ℕ, ◌≤◌, List, length, Option, Some, position}
 use Rattle.base64.specs.GeneralPurpose.{IsBytes}
 use Rattle.usp_claims.specs.Table.{IsClaimSet}
+use Rattle.usp_claims.specs.declared.limits.TheConstants.{MAX_PAYLOAD}
 use Rattle.usp_json.specs.Spells.{IsReading}
 use Rattle.usp_json.specs.declared.value.Members.{Members}
 use Rattle.usp_jws.specs.Base64url.{b64u}
@@ -15,9 +16,9 @@ pub record HasParts (token : List ℕ) (parts : PartsValue) : Type 0 where
   pub short : IsToken token
   pub whole : token ≡ text_of parts
 
--- at most 4,096 bytes that spell these claims
+-- at most `MAX_PAYLOAD` bytes that spell these claims
 pub record SpellsClaims (bytes : List ℕ) (members : Members) : Type 0 where
-  pub short : length bytes ≤ 4096
+  pub short : length bytes ≤ MAX_PAYLOAD
   pub reads : IsReading bytes members
   pub set : IsClaimSet members
 
@@ -28,7 +29,8 @@ pub record HasClaims (payload : List ℕ) (members : Members) : Type 0 where
   pub encoded : payload ≡ b64u bytes
   pub claims : SpellsClaims bytes members
 
--- the place of the first key that the header names, if it names one, and whose MAC is the signature (RFC 7515 section 5.2)
+-- the place of the first key that the header names, if it names one, and whose MAC is the signature (RFC 7515
+-- section 5.2)
 abbrev pub verifying : List KeyValue → Option (List ℕ) → PartsValue → Option ℕ
 verifying ring kid parts = position (agrees kid (signed_of parts) parts.signature) ring
 

@@ -1,6 +1,7 @@
-// What is asked.
-ghost use Rattle.std.specs.Prelude.{◌≡◌, ◌<◌, ◌^◌};
+//! What is asked.
+ghost use Rattle.std.specs.Prelude.{◌≡◌, ◌<◌};
 ghost use Rattle.std.specs.Option.{option_copied};
+ghost use Rattle.usp_base.specs.declared.clock.TheConstants.{MOMENT_BOUND};
 
 use std::marker::Model;
 
@@ -13,21 +14,22 @@ pub struct Ask<'a> {
 }
 
 impl<'a> Model for Ask<'a> {
-    ghost use Rattle.std.specs.Prelude.{◌<◌, ◌^◌};
+    ghost use Rattle.std.specs.Prelude.{◌<◌};
     ghost use Rattle.std.specs.Option.{option_copied};
+    ghost use Rattle.usp_base.specs.declared.clock.TheConstants.{MOMENT_BOUND};
     ghost use Rattle.usp_rules.specs.Asks.{AskValue};
 
     ghost Value = { AskValue };
 
     ghost view = { λ a. record { uri = a.uri.now; cookie = option_copied a.cookie; moment = a.moment } };
 
-    ghost invariant = { λ a. a.moment < 2 ^ 52 };
+    ghost invariant = { λ a. a.moment < MOMENT_BOUND };
 }
 
 impl<'a> Ask<'a> {
     /// An ask at a moment in seconds since 1970.
     pub fn new(uri: &'a [u8], cookie: Option<&'a [u8]>, moment: u64) -> Ask<'a>
-        requires { moment < 2 ^ 52 }
+        requires { moment < MOMENT_BOUND }
         ensures uri { result.uri ≡ uri.now }
         ensures cookie { result.cookie ≡ option_copied cookie.entry }
         ensures moment { result.moment ≡ moment }
@@ -53,10 +55,10 @@ impl<'a> Ask<'a> {
         self.cookie
     }
 
-    /// In seconds since 1970, below 2^52.
+    /// In seconds since 1970, below [`MOMENT_BOUND`](usp_base::MOMENT_BOUND).
     pub fn moment(&self) -> u64
         ensures value { result ≡ self.now.moment }
-        ensures bound { result < 2 ^ 52 }
+        ensures bound { result < MOMENT_BOUND }
     {
         self.moment
     }

@@ -1,115 +1,96 @@
-// The first rule that a request breaks.
-ghost use Rattle.std.specs.Prelude.{◌≡◌, ◌<◌, ◌^◌, ◌++◌, length, Ok, IfOk};
+//! The first rule that a request breaks.
+ghost use Rattle.std.specs.Prelude.{◌≡◌, ◌↔◌, ◌<◌, ◌++◌, List, ℕ, length, IsTrue, None, Ok, Some, IfOk};
 ghost use Rattle.std.specs.Result.{result_ok};
+ghost use Rattle.usp_base.specs.declared.clock.TheConstants.{MOMENT_BOUND};
 ghost use Rattle.usp_jws.specs.Compact.{IsToken};
 ghost use Rattle.usp_jws.specs.Parts.{text_of};
-ghost use Rattle.usp_package.specs.Found.{shown};
+ghost use Rattle.usp_package.specs.Package.{bad, carried, nothing};
 ghost use Rattle.usp_uri.specs.Faults.{normal_of};
-ghost use Rattle.usp_rules.specs.Judging.{Judges, JudgesBy, JudgesWith};
+ghost use Rattle.usp_rules.specs.Judging.{Judges, JudgesAll, JudgesBy};
 ghost use Rattle.usp_rules.specs.Rules.{constraints, rules_of_parts, rules_of_token};
 ghost use Rattle.usp_rules.specs.Tokens.{Claims as HasClaimsOf, IsVerified};
+ghost use Rattle.usp_rules.specs.declared.judged.Judged.TheVariants.{Denied};
+ghost use Rattle.usp_rules.specs.declared.profile.Profile.{Profile};
 
 use crate::constraints::first_failing;
+use crate::terms::Terms;
 use crate::token::{claims_in, header_in};
 use crate::{Ask, Judged, NoMemory, Profile, Rule};
 use std::alloc::Global;
 use usp_claims::Claims;
 use usp_ext::Kit;
-use usp_jws::{Parts, Token, split, verifier};
+use usp_jws::{DecodedToken, Parts, TokenRef, decode, verifier};
 use usp_package::{Found, find, joined};
-use usp_uri::{Uri, UriFault, read_uri};
-
-fn token_of(alloc: Global, parts: &Parts<'_>) -> Result<Token, NoMemory>
-    ensures { IfOk result (λ token. token ≡ text_of parts.now) }
-{
-    match Token::of(alloc, parts) {
-        Ok(token) => Ok(token),
-        Err(_) => Err(NoMemory),
-    }
-}
+use usp_uri::{Uri, UriFault, check_uri, read_uri};
 
 // Rules 7 to 15, of a token with these claims that the key at this place verifies.
-fn judge_claims(
-    alloc: Global,
-    kit: &Kit,
-    profile: &Profile,
-    parts: &Parts<'_>,
+fn judge_claims<'a>(
+    terms: &Terms<'_>,
+    parts: &Parts<'a>,
     place: usize,
     claims: Claims,
     content: Option<Uri>,
-    moment: u64,
-) -> Result<Judged, NoMemory>
-    requires bound { moment < 2 ^ 52 }
+) -> Result<Judged<'a>, NoMemory>
+    requires bound { terms.now.moment < MOMENT_BOUND }
     requires claims { HasClaimsOf (text_of parts.now) claims }
-    requires verified { IsVerified profile.now.ring (text_of parts.now) place }
-    requires within { place < length profile.now.ring }
-    ensures { IfOk result (λ judged. JudgesBy constraints profile.now (record { token = text_of parts.now; content = content; moment = moment }) judged) }
+    requires verified { IsVerified terms.now.profile.now.ring (text_of parts.now) place }
+    requires within { place < length terms.now.profile.now.ring }
+    ensures { IfOk result (λ judged. JudgesBy constraints terms.now.profile.now
+        (record { token = text_of parts.now; content = content; moment = terms.now.moment }) judged) }
 {
-    let issuer = profile.ring.keys()[place].issuer();
-    if let Some(rule) = first_failing(
-        alloc,
-        kit,
-        profile,
-        issuer,
-        &claims,
-        content.as_ref(),
-        moment,
-    )? {
+    let issuer = terms.profile.ring.keys()[place].issuer();
+    if let Some(rule) = first_failing(terms, issuer, &claims, content.as_ref())? {
         return Ok(Judged::Denied(rule));
     }
     let Some(content) = content else {
         return Ok(Judged::Denied(Rule::Container));
     };
-    let token = token_of(alloc, parts)?;
     Ok(Judged::Passed {
         content,
-        token,
+        token: TokenRef::of(parts),
         claims,
         key: place,
     })
 }
 
 // Rules 4 to 15.
-fn judge_parts(
-    alloc: Global,
-    kit: &Kit,
-    profile: &Profile,
-    parts: &Parts<'_>,
+fn judge_parts<'a>(
+    terms: &Terms<'_>,
+    token: &DecodedToken<'a>,
     content: Option<Uri>,
-    moment: u64,
-) -> Result<Judged, NoMemory>
-    requires bound { moment < 2 ^ 52 }
-    requires token { IsToken (text_of parts.now) }
-    ensures { IfOk result (λ judged. JudgesBy rules_of_parts profile.now (record { token = text_of parts.now; content = content; moment = moment }) judged) }
+) -> Result<Judged<'a>, NoMemory>
+    requires bound { terms.now.moment < MOMENT_BOUND }
+    requires token { IsToken (text_of token.now.parts) }
+    ensures { IfOk result (λ judged. JudgesBy rules_of_parts terms.now.profile.now
+        (record { token = text_of token.now.parts; content = content; moment = terms.now.moment }) judged) }
 {
-    let Some(header) = header_in(alloc, parts)? else {
+    let Some(header) = header_in(terms.alloc, token)? else {
         return Ok(Judged::Denied(Rule::Header));
     };
-    let Some(place) = verifier(&profile.ring, &header, parts) else {
+    let parts = token.parts();
+    let Some(place) = verifier(&terms.profile.ring, &header, parts) else {
         return Ok(Judged::Denied(Rule::Signature));
     };
-    let Some(claims) = claims_in(alloc, parts.payload())? else {
+    let Some(claims) = claims_in(terms.alloc, token)? else {
         return Ok(Judged::Denied(Rule::Claims));
     };
-    judge_claims(alloc, kit, profile, parts, place, claims, content, moment)
+    judge_claims(terms, parts, place, claims, content)
 }
 
 // Rules 3 to 15.
-fn judge_token(
-    alloc: Global,
-    kit: &Kit,
-    profile: &Profile,
-    token: &[u8],
+fn judge_token<'a>(
+    terms: &Terms<'_>,
+    text: &'a [u8],
     content: Option<Uri>,
-    moment: u64,
-) -> Result<Judged, NoMemory>
-    requires bound { moment < 2 ^ 52 }
-    ensures { IfOk result (λ judged. JudgesBy rules_of_token profile.now (record { token = token.now; content = content; moment = moment }) judged) }
+) -> Result<Judged<'a>, NoMemory>
+    requires bound { terms.now.moment < MOMENT_BOUND }
+    ensures { IfOk result (λ judged. JudgesBy rules_of_token terms.now.profile.now
+        (record { token = text.now; content = content; moment = terms.now.moment }) judged) }
 {
-    let Ok(parts) = split(token) else {
+    let Some(token) = decode(terms.alloc, text)? else {
         return Ok(Judged::Denied(Rule::Package));
     };
-    judge_parts(alloc, kit, profile, &parts, content, moment)
+    judge_parts(terms, &token, content)
 }
 
 /// The normal form of a text (RFC 3986 section 6.2). None exactly where it is no URI that has one.
@@ -123,59 +104,95 @@ pub fn normal_form(alloc: Global, text: &[u8]) -> Result<Option<Uri>, NoMemory>
     }
 }
 
-// The normal form of the one text followed by the other.
-fn content_of(alloc: Global, before: &[u8], after: &[u8]) -> Result<Option<Uri>, NoMemory>
-    ensures { IfOk result (λ uri. uri ≡ result_ok (normal_of (before.now ++ after.now))) }
+// Whether a text is a URI that has a normal form. It takes no memory.
+fn is_uri(text: &[u8]) -> bool
+    ensures { IsTrue result ↔ ((normal : List ℕ) × (normal_of text.now ≡ Ok normal)) }
 {
-    let Ok(text) = joined(alloc, before, after) else {
-        return Err(NoMemory);
-    };
-    normal_form(alloc, &text)
+    check_uri(text).is_ok()
 }
 
-// Rules 2 to 15, of an ask whose URI has this normal form and this package.
-fn judge_package(
-    alloc: Global,
-    kit: &Kit,
-    profile: &Profile,
-    ask: &Ask<'_>,
-    uri: Uri,
-    found: Found<'_>,
-) -> Result<Judged, NoMemory>
-    requires { normal_of ask.now.uri ≡ Ok uri }
-    ensures { IfOk result (λ judged. JudgesWith profile.now ask.now (shown found.entry) judged) }
+// Rules 1 and 2, of an ask that brings no token.
+fn judge_missing(ask: &Ask<'_>) -> Rule
+    requires { ask.now.cookie ≡ None }
+    ensures { (profile : Profile) → JudgesAll profile ask.now nothing (Denied result) }
 {
-    match found {
-        Found::None => match ask.cookie() {
-            None => Ok(Judged::Denied(Rule::Missing)),
-            Some(token) => judge_token(alloc, kit, profile, token, Some(uri), ask.moment()),
-        },
-        Found::Bad { .. } => Ok(Judged::Denied(Rule::Package)),
-        Found::At {
-            token,
-            before,
-            after,
-        } => {
-            let content = content_of(alloc, before, after)?;
-            judge_token(alloc, kit, profile, token, content, ask.moment())
-        }
+    if is_uri(ask.uri()) {
+        Rule::Missing
+    } else {
+        Rule::Uri
+    }
+}
+
+// Rules 1 to 15, of an ask whose URI has no package.
+fn judge_cookie<'a>(terms: &Terms<'_>, ask: &Ask<'a>) -> Result<Judged<'a>, NoMemory>
+    requires bound { terms.now.moment < MOMENT_BOUND }
+    requires moment { terms.now.moment ≡ ask.now.moment }
+    ensures { IfOk result (λ judged. JudgesAll terms.now.profile.now ask.now nothing judged) }
+{
+    let Some(token) = ask.cookie() else {
+        return Ok(Judged::Denied(judge_missing(ask)));
+    };
+    let Some(uri) = normal_form(terms.alloc, ask.uri())? else {
+        return Ok(Judged::Denied(Rule::Uri));
+    };
+    judge_token(terms, token, Some(uri))
+}
+
+// Rules 1 to 15, of an ask whose URI has this token between these texts.
+fn judge_carried<'a>(
+    terms: &Terms<'_>,
+    ask: &Ask<'a>,
+    token: &'a [u8],
+    before: &[u8],
+    after: &[u8],
+) -> Result<Judged<'a>, NoMemory>
+    requires bound { terms.now.moment < MOMENT_BOUND }
+    requires moment { terms.now.moment ≡ ask.now.moment }
+    ensures { IfOk result (λ judged.
+        JudgesAll terms.now.profile.now ask.now (carried token.now before.now after.now) judged) }
+{
+    if !is_uri(ask.uri()) {
+        return Ok(Judged::Denied(Rule::Uri));
+    }
+    let text = joined(terms.alloc, before, after)?;
+    let content = normal_form(terms.alloc, &text)?;
+    judge_token(terms, token, content)
+}
+
+// Rules 1 to 3, of an ask whose URI has a package that does not end as it may.
+fn judge_bad(ask: &Ask<'_>) -> Rule
+    ensures { (profile : Profile) (at : ℕ) → JudgesAll profile ask.now (bad at) (Denied result) }
+{
+    if is_uri(ask.uri()) {
+        Rule::Package
+    } else {
+        Rule::Uri
     }
 }
 
 /// Denies a request by the first of rules 1 to 15 that it breaks, or tells what passes: the content URI,
 /// the token, its claims, and the place in the ring of the key that verifies it.
-pub fn judge(alloc: Global, kit: &Kit, profile: &Profile, ask: &Ask<'_>) -> Result<Judged, NoMemory>
+pub fn judge<'a>(
+    alloc: Global,
+    kit: &Kit,
+    profile: &Profile,
+    ask: &Ask<'a>,
+) -> Result<Judged<'a>, NoMemory>
     ensures { IfOk result (λ judged. Judges profile.now ask.now judged) }
 {
-    let Some(uri) = normal_form(alloc, ask.uri())? else {
-        return Ok(Judged::Denied(Rule::Uri));
-    };
-    judge_package(
+    let terms = Terms {
         alloc,
         kit,
         profile,
-        ask,
-        uri,
-        find(&profile.attribute, ask.uri()),
-    )
+        moment: ask.moment(),
+    };
+    match find(&profile.attribute, ask.uri()) {
+        Found::None => judge_cookie(&terms, ask),
+        Found::Bad { .. } => Ok(Judged::Denied(judge_bad(ask))),
+        Found::At {
+            token,
+            before,
+            after,
+        } => judge_carried(&terms, ask, token, before, after),
+    }
 }

@@ -1,8 +1,8 @@
-// Containers.
+//! Containers.
 ghost use Rattle.std.specs.Prelude.{◌≡◌, ◌↔◌, ◌<◌, ℕ, List, IsTrue, IfOk};
 ghost use Rattle.usp_ere.specs.Compiled.{expression_of};
 ghost use Rattle.usp_ere.specs.Expression.{Finds};
-ghost use Rattle.usp_rules.specs.Kinds.{IsCompiled, MeetsAs, ReadsAs, wants_memory};
+ghost use Rattle.usp_rules.specs.Kinds.{IsCompiled, MeetsAs, ReadsAs};
 ghost use Rattle.usp_rules.specs.Containers.{Meets};
 ghost use Rattle.usp_rules.specs.Segment.{segment_of};
 
@@ -12,7 +12,7 @@ use std::alloc::Global;
 use std::marker::Brand;
 use std::sync::ledger::{Blank, Ledger};
 use usp_base::{Octets, Steps, after_prefix};
-use usp_ere::{Ere, EreFault, compile, scratch};
+use usp_ere::{Ere, compile, scratch};
 use usp_uri::Uri;
 
 /// Which contents a token is for, as its claim `cdniuc` says (RFC 9246 section 2.1.15).
@@ -38,9 +38,7 @@ fn finds_by<L: Ledger>(
     requires some { 0 < blank.parts }
     ensures { IfOk result (λ found. IsTrue found ↔ Finds (expression_of ere.now) text.now) }
 {
-    let Ok(mut scratch) = scratch(alloc, ere) else {
-        return Err(NoMemory);
-    };
+    let mut scratch = scratch(alloc, ere)?;
     let mut steps = Steps::<L>::new(blank);
     Ok(ere.is_match(text, &mut scratch, &mut steps))
 }
@@ -52,18 +50,6 @@ fn finds(alloc: Global, ere: &Ere, text: &[u8]) -> Result<bool, NoMemory>
     finds_by::<Brand>(alloc, Blank::new(1), ere, text)
 }
 
-fn wants_memory(fault: EreFault) -> bool
-    ensures { result ≡ wants_memory fault }
-{
-    match fault {
-        EreFault::NoMemory => true,
-        EreFault::Syntax { .. } => false,
-        EreFault::Undefined { .. } => false,
-        EreFault::Repeat { .. } => false,
-        EreFault::TooLarge => false,
-    }
-}
-
 // The expression of a text. None exactly where it has a fault or is too large.
 fn of_expression(alloc: Global, text: &[u8]) -> Result<Option<Ere>, NoMemory>
     ensures { IfOk result (λ found. IsCompiled text.now found) }
@@ -72,7 +58,7 @@ fn of_expression(alloc: Global, text: &[u8]) -> Result<Option<Ere>, NoMemory>
         Ok(ere) => return Ok(Some(ere)),
         Err(fault) => fault,
     };
-    if wants_memory(fault) {
+    if fault.is_memory() {
         return Err(NoMemory);
     }
     Ok(None)
@@ -98,7 +84,8 @@ impl Container {
     /// Whether the container meets the URI.
     pub fn meets(&self, alloc: Global, uri: &Uri) -> Result<bool, NoMemory>
         ensures kind { IfOk result (λ met. IsTrue met ↔ MeetsAs self.now uri.now) }
-        ensures text { (text : List ℕ) → ReadsAs text self.now → IfOk result (λ met. IsTrue met ↔ Meets text uri.now) }
+        ensures text { (text : List ℕ) → ReadsAs text self.now
+            → IfOk result (λ met. IsTrue met ↔ Meets text uri.now) }
     {
         match self {
             Container::Hash(segment) => Ok(segment.bytes() == segment_of(uri.text()).as_slice()),

@@ -10,9 +10,11 @@ mod fault;
 mod hash;
 mod judged;
 mod laws;
+mod limits;
 mod profile;
 mod rule;
 mod segment;
+mod terms;
 #[cfg(test)]
 mod tests;
 mod token;
@@ -23,7 +25,11 @@ pub use container::Container;
 pub use fault::NoMemory;
 pub use hash::hash_container;
 pub use judged::Judged;
-pub use laws::{names_the_first_that_fails, one_verdict, passes_what_is_valid};
+pub use laws::{
+    admits_what_passes, limits_are_told, names_the_first_that_fails, one_verdict,
+    others_are_no_rules_of_tokens, passes_what_is_valid, segments_are_ascii,
+};
+pub use limits::SEGMENT_LEN;
 pub use profile::Profile;
 pub use rule::Rule;
 pub use segment::segment_of;

@@ -1,4 +1,4 @@
-// What an edge judges by.
+//! What an edge judges by.
 use usp_base::Rows;
 use usp_ext::Extensions;
 use usp_json::Text;

@@ -1,4 +1,4 @@
-// The rules by number and name.
+//! The rules by number and name.
 ghost use Rattle.std.specs.Prelude.{◌≡◌};
 ghost use Rattle.usp_rules.specs.Names.{name_of, number_of};
 

@@ -1,5 +1,5 @@
-// Containers against URIs.
-use crate::{Container, NoMemory, segment_of};
+//! Containers against URIs.
+use crate::{Container, NoMemory, hash_container, segment_of};
 use std::alloc::Global;
 use std::test::Fail;
 use usp_uri::read_uri;
@@ -62,5 +62,20 @@ fn the_segment_of_hello_world(rt: HostRuntime) -> Result<(), Fail> {
     let segment = segment_of(b"Hello World!");
     let expected = b"sha-256;f4OxZX_x_FO5LcGBSKHWXfwtSx-j1ncoSt3SABJtkGk";
     assert_eq!(rt; segment.as_slice(), expected.as_slice());
+    Ok(())
+}
+
+#[test]
+fn the_container_of_one_content(rt: HostRuntime) -> Result<(), Fail> {
+    let alloc = rt.alloc();
+    let Ok(uri) = read_uri(alloc, b"http://h/./v") else {
+        return Err(Fail::new("a URI"));
+    };
+    let container = hash_container(alloc, &uri)?;
+    assert_eq!(rt;
+        container.text(),
+        "hash:sha-256;xT60M7lHtGBVCdlichUwoZuDeaxplJhq9F7WRq4UG3k"
+    );
+    assert_eq!(rt; NoMemory.to_string(alloc)?.as_str(), "there was no memory");
     Ok(())
 }

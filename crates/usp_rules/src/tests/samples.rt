@@ -1,4 +1,4 @@
-// A profile, tokens under its key, and what is judged of an ask.
+//! A profile, tokens under its key, and what is judged of an ask.
 use crate::{Ask, Judged, NoMemory, Profile, Rule, judge};
 use base64::engine::general_purpose::URL_SAFE_NO_PAD;
 use std::alloc::Global;
@@ -8,7 +8,7 @@ use usp_ext::{
     Extensions, Kit, Setting, TestKind, equals, is_any, is_at_most, is_one_of, is_path_prefix,
 };
 use usp_json::Text;
-use usp_jws::{Key, Ring, seal};
+use usp_jws::{Key, MAX_PAYLOAD, Ring, seal};
 use usp_package::AttrName;
 
 pub const SECRET: [u8; 32] = [1; 32];
@@ -66,7 +66,7 @@ pub fn profile_of(
 
 // A token over a payload, under the profile's own key.
 pub fn sealed(alloc: Global, payload: &[u8]) -> Result<String, Fail> {
-    if payload.len() > 6000 {
+    if payload.len() > MAX_PAYLOAD {
         return Err(Fail::new("a payload that is too long to seal"));
     }
     let token = seal(alloc, &key_of(alloc, &SECRET)?, payload)?;
@@ -84,13 +84,13 @@ pub fn sealed_under(alloc: Global, header: &str, payload: &str) -> Result<String
     Ok(text)
 }
 
-pub fn judged(
+pub fn judged<'a>(
     alloc: Global,
     profile: &Profile,
-    uri: &[u8],
-    cookie: Option<&[u8]>,
+    uri: &'a [u8],
+    cookie: Option<&'a [u8]>,
     moment: u32,
-) -> Result<Judged, NoMemory> {
+) -> Result<Judged<'a>, NoMemory> {
     let kit = Kit::new(is_any, equals, is_one_of, is_at_most, is_path_prefix);
     judge(alloc, &kit, profile, &Ask::new(uri, cookie, moment as u64))
 }

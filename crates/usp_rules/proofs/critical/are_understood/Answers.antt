@@ -9,4 +9,4 @@ returns g c =
     let same : map (λ part. trim_blanks part.now) c.deref.result.now ≡ names_in c.args.text.now =
     mapped_twice trim_blanks (λ part. part.now) c.deref.result.now
     ∙ ap (map trim_blanks) (ap (map (λ part. part.now)) c.deref.ensures.value ∙ c.in_ok-parts.ensures) in
-    c.are_all_understood.ensures ∙ ap (are_understood c.args.extensions.now c.args.facts.now.path.now c.args.claims.now) same
+    c.are_all_understood.ensures ∙ ap (are_understood c.args.critical.now.extensions.now c.args.critical.now.facts.path.now c.args.critical.now.claims.now) same

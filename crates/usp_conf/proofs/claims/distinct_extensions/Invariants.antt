@@ -1,6 +1,6 @@
 use Rattle.std.proofs.Common.{◌≡◌, ◌++◌, []}
 use Rattle.usp_conf.specs.Claims.{repeats_behind}
-use Rattle.usp_conf.proofs.claims.apart.Given as goal
+use Rattle.usp_conf.proofs.claims.distinct_extensions.Given as goal
 
 -- the extensions are the rows so far, of which no two are of one claim
 abbrev pub invariant-loop-row : goal.invariant-loop-row
