@@ -1,2 +1,5 @@
+pub mod Redirections
+pub mod Renewals
+pub mod Resignings
 pub mod Routes
 pub mod Sites

@@ -6,6 +6,7 @@ use Rattle.std.specs.Str.{bytes_eq}
 use Rattle.usp_jws.specs.Keys.{KeyValue}
 use Rattle.usp_rules.specs.declared.profile.Profile.{Profile}
 use Rattle.usp_issue.specs.Routes.{RouteValue}
+use Rattle.usp_issue.specs.declared.limits.TheConstants.{MAX_ROUTES}
 
 pub record SiteValue : Type 0 where
   pub profile : Profile
@@ -27,4 +28,4 @@ is_own keys issuers place = option_map_or (λ key. has_issuer issuers key.issuer
 pub record IsSite (value : SiteValue) : Type 0 where
   pub within : value.sign < length value.profile.ring
   pub own : is_own value.profile.ring value.profile.issuers value.sign ≡ true
-  pub few : length value.routes ≤ 16
+  pub few : length value.routes ≤ MAX_ROUTES

@@ -1,4 +1,4 @@
-// Where a request may be sent on.
+//! Where a request may be sent on.
 ghost use Rattle.std.specs.Prelude.{◌≡◌, true};
 ghost use Rattle.usp_jws.specs.Letters.{is_identity};
 ghost use Rattle.usp_issue.specs.Routes.{RouteValue};

@@ -1,6 +1,7 @@
-// An edge: what it judges by, its own key, and its routes.
+//! An edge: what it judges by, its own key, and its routes.
 ghost use Rattle.std.specs.Prelude.{◌≡◌, ◌<◌, ◌≤◌, true, length};
 ghost use Rattle.usp_issue.specs.Sites.{is_own, site};
+ghost use Rattle.usp_issue.specs.declared.limits.TheConstants.{MAX_ROUTES};
 
 use crate::Route;
 use std::marker::Model;
@@ -33,7 +34,7 @@ impl Site {
     pub fn new(profile: Profile, sign: usize, routes: Rows<Route>) -> Site
         requires within { sign < length profile.ring }
         requires own { is_own profile.ring profile.issuers sign ≡ true }
-        requires few { length routes ≤ 16 }
+        requires few { length routes ≤ MAX_ROUTES }
         ensures { result ≡ site profile sign routes }
     {
         Site {
@@ -62,7 +63,7 @@ impl Site {
     /// The routes, in the order in which they are tried.
     pub fn routes(&self) -> &Rows<Route>
         ensures value { result.now ≡ self.now.routes }
-        ensures few { length self.now.routes ≤ 16 }
+        ensures few { length self.now.routes ≤ MAX_ROUTES }
     {
         &self.routes
     }
