@@ -3,17 +3,22 @@
 #![tactic(auto)]
 
 mod outside;
-#[cfg(test)]
-mod tests;
+
+ghost use Rattle.std.specs.Prelude.{◌≡◌, map, string_bytes};
+ghost use Rattle.std.specs.Process.{exit_status};
+ghost use Rattle.usp_base.specs.Statuses.{status_number};
+ghost use Rattle.usp_base.specs.declared.fault.Status.{Status};
+ghost use Rattle.usp_tool.specs.Run.{Runs, world_of};
 
 use outside::{Folder, Incoming, Outgoing};
+use std::alloc::Global;
 use std::io::ErrorKind;
 use std::process::ExitCode;
 use std::rt::Runtime;
 use std::{env, io};
-use usp_base::Status;
+use usp_base::{Files, Sink, Source, Status};
 use usp_ext::{Kit, equals, is_any, is_at_most, is_one_of, is_path_prefix};
-use usp_tool::{Outside, run};
+use usp_tool::run::{Outside, run};
 
 // The words behind the program's name.
 fn words_of<R: Runtime + AllocGlobal>(rt: &R) -> io::Result<Vec<String>> {
@@ -26,13 +31,27 @@ fn words_of<R: Runtime + AllocGlobal>(rt: &R) -> io::Result<Vec<String>> {
     Ok(words)
 }
 
+// Runs the words, and answers the number of the status.
+fn run_to_the_end<F: Files, S: Source, K: Sink>(
+    alloc: Global,
+    words: &[String],
+    outside: &mut Outside<F, S, K>,
+) -> ExitCode
+    ensures { (status : Status) × (exit_status result ≡ status_number status)
+        × Runs (map (λ w. string_bytes w) words.now)
+        (world_of F.Files S.Source K.Sink outside.old.files outside.old.input outside.old.out)
+        (world_of F.Files S.Source K.Sink outside.new.files outside.new.input outside.new.out) status }
+{
+    run(alloc, words, outside).exit_code()
+}
+
 fn main(rt: HostRuntime) -> ExitCode {
     let alloc = rt.alloc();
     let words = match words_of(&rt) {
         Ok(words) => words,
         Err(error) => {
             if error.kind() == ErrorKind::OutOfMemory {
-                return ExitCode::from(Status::Memory as u8);
+                return Status::Memory.exit_code();
             }
             // A word that is no text is in no command.
             Vec::new(alloc)
@@ -44,6 +63,5 @@ fn main(rt: HostRuntime) -> ExitCode {
         out: Outgoing::new(io::writer(&rt)),
         kit: Kit::new(is_any, equals, is_one_of, is_at_most, is_path_prefix),
     };
-    let status = run(alloc, &words, &mut outside);
-    ExitCode::from(status as u8)
+    run_to_the_end(alloc, &words, &mut outside)
 }

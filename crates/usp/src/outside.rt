@@ -1,5 +1,11 @@
-// The real files, input and output. They count their faults, and tell nothing.
-ghost use Rattle.std.specs.Prelude.{◌≡◌, None};
+//! The real files, input and output. They count their faults. To a command they tell nothing, and a clause of
+//! each call says what passes to or from a reader or a writer that tells its bytes.
+ghost use Rattle.std.specs.Prelude.{◌≡◌, ◌≤◌, false, true, length, None, IfOk, IsErr, OnOk};
+ghost use Rattle.std.specs.Io.KnownBytes.{Appends, ReadConsumes};
+ghost use Rattle.usp_base.specs.Outside.{HasCause};
+
+#[cfg(test)]
+mod tests;
 
 use std::alloc::Global;
 use std::fs;
@@ -71,7 +77,17 @@ impl<R: Read + Drop> Source for Incoming<R> {
 
     ghost reads = { λ _ _. Unit {0} };
 
-    fn read(&mut self, into: &mut [u8]) -> Result<usize, Failed> {
+    // The first clauses are the trait's. Then: what is answered is what the reader gave, these bytes, no end but
+    // its own, and at a failure none; after its end nothing changes.
+    fn read(&mut self, into: &mut [u8]) -> Result<usize, Failed>
+        ensures count { IfOk result (λ n. n ≤ length into.new) }
+        ensures over { IfOk result (λ n. n ≡ 0 → self.new.ended ≡ true) }
+        ensures stays_over { self.old.ended ≡ true → IfOk result (λ n. n ≡ 0) × (self.new.ended ≡ true) }
+        ensures cause { HasCause self.old.faults self.new.faults (IsErr result) }
+        ensures given { self.old.ended ≡ false
+            → ReadConsumes (R.remaining self.old.reader) (R.remaining self.new.reader) result into.new }
+        ensures unasked { self.old.ended ≡ true → self.new ≡ self.old }
+    {
         if self.ended {
             return Ok(0);
         }
@@ -114,7 +130,12 @@ impl<W: Write + Drop> Sink for Outgoing<W> {
 
     ghost puts = { λ _ _. Unit {0} };
 
-    fn put(&mut self, piece: &[u8]) -> Result<(), Failed> {
+    // The first clause is the trait's. Then: what the writer takes is the piece.
+    fn put(&mut self, piece: &[u8]) -> Result<(), Failed>
+        ensures cause { HasCause self.old.faults self.new.faults (IsErr result) }
+        ensures given { OnOk result
+            (Appends (W.contents self.old.writer) (W.contents self.new.writer) piece.now) }
+    {
         if self.writer.write_all(piece).is_err() || self.writer.flush().is_err() {
             self.faults = self.faults.saturating_add(1);
             return Err(Failed);

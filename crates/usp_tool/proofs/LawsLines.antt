@@ -8,12 +8,14 @@ use Rattle.usp_jws.specs.Keys.{KeyValue}
 use Rattle.usp_nonce.specs.History.{Call}
 use Rattle.usp_rules.specs.Asks.{AskValue}
 use Rattle.usp_rules.specs.declared.profile.Profile.{Profile}
-use Rattle.usp_tool.specs.Check.{Checks, ChecksAsk, done, line, decides, refuses, status_with}
-use Rattle.usp_tool.specs.Line.{ask_of}
+use Rattle.usp_tool.specs.Check.{Checks, ChecksAsk, done, line, decides, stops}
+use Rattle.usp_tool.specs.Check.Line.{ask_of}
+use Rattle.usp_tool.specs.Check.Verdicts.{status_with}
 use Rattle.usp_tool.specs.Outcome.{Outcome}
-use Rattle.usp_tool.specs.Sign.{Signs, SignsAll, done as signed_done, refuses as signed_refuses, signs}
-use Rattle.usp_tool.specs.declared.verdict.Verdict.{Verdict}
-use Rattle.usp_tool.specs.declared.verdict.Verdict.TheVariants.{Admitted, Denied}
+use Rattle.usp_tool.specs.Sign.{SignsAll, done as signed_done, stops as signed_stops, signs}
+use Rattle.usp_tool.specs.Sign.Line.{Signs}
+use Rattle.usp_tool.specs.declared.check.verdict.Verdict.{Verdict}
+use Rattle.usp_tool.specs.declared.check.verdict.Verdict.TheVariants.{Admitted, Denied}
 
 first_of_all : (P : List ℕ → Type 0) (first : List ℕ) (lines : List (List ℕ)) → All P (first ∷ lines) → P first
 first_of_all P first lines all = all 0 first (omega arith)
@@ -39,14 +41,14 @@ mutual
 
   all_asked : (profile : Profile) (room number : ℕ) (calls after : List Call) (ask : Option AskValue) (lines : List (List ℕ)) (outcome : Outcome)
       → is_some ask ≡ true → All (λ line. is_some (ask_of line) ≡ true) lines → ChecksAsk profile room number calls ask lines outcome after → IsWhole outcome.status
-  all_asked profile room _ _ _ _ _ _ some all (refuses number calls after lines outcome is same) = absurd cc
+  all_asked profile room _ _ _ _ _ _ some all (stops number calls after lines outcome is same) = absurd cc
   all_asked profile room _ _ _ _ _ _ some all (decides number calls between after ask lines outcome more verdict decided checks is) =
       subst IsWhole (sym (ap (λ (o : Outcome). o.status) is)) (still_whole verdict more.status (all_judged profile room (number + 1) between after lines more all checks))
 
 pub all_signed : (attribute : List ℕ) (key : KeyValue) (number : ℕ) (lines : List (List ℕ)) (outcome : Outcome)
     → All (λ line. (text : List ℕ) × Signs attribute key line text) lines → SignsAll attribute key number lines outcome → outcome.status ≡ Done
 all_signed attribute key _ _ _ all (signed_done number outcome is) = ap (λ (o : Outcome). o.status) is
-all_signed attribute key _ _ _ all (signed_refuses number first lines outcome never is) =
+all_signed attribute key _ _ _ all (signed_stops number first lines outcome never is) =
     let some : (text : List ℕ) × Signs attribute key first text = first_of_all (λ line. (text : List ℕ) × Signs attribute key line text) first lines all in
     absurd (never some.0 some.1)
 all_signed attribute key _ _ _ all (signs number first text lines outcome more signed rest is) =

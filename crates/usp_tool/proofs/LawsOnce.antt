@@ -4,7 +4,7 @@ use Rattle.std.specs.Prelude.{MatchBool}
 use Rattle.usp_claims.specs.Table.{text_claim}
 use Rattle.usp_conf.proofs.Refused as conf
 use Rattle.usp_conf.specs.Conf.{conf_of}
-use Rattle.usp_conf.specs.Readings.{Fails, RefusesConf}
+use Rattle.usp_conf.specs.Readings.{Configures, Fails, RefusesConf}
 use Rattle.usp_conf.specs.Values.{ConfValue}
 use Rattle.usp_conf.specs.declared.fault.ConfFault.{ConfFault}
 use Rattle.usp_conf.specs.declared.fault.ConfFault.TheVariants as fault
@@ -21,22 +21,26 @@ use Rattle.usp_rules.specs.Tokens.{SpellsClaims}
 use Rattle.usp_rules.specs.declared.judged.Judged.TheVariants as judged
 use Rattle.usp_rules.specs.declared.profile.Profile.{Profile}
 use Rattle.usp_rules.specs.declared.rule.Rule.{Rule}
-use Rattle.usp_tool.proofs.Signing.{of_these}
-use Rattle.usp_tool.specs.Answer.{Answers, LacksKey, Works, WorksInput, no_conf, no_key, worked}
-use Rattle.usp_tool.specs.Check.{Checks, ChecksAsk, Decides, IsCall, called, decides, denied, done, free, line, refuses, verdict_by, with_verdict}
-use Rattle.usp_tool.specs.Line.{ask_of}
-use Rattle.usp_tool.specs.Lines.{is_long_input, lines_of}
-use Rattle.usp_tool.specs.Outcome.{Outcome, fault_name, nothing, refused, refused_line}
-use Rattle.usp_tool.specs.Sign.{Signs, SignsAll, done as signed_done, key_named, refuses as signed_refuses, signed_uri, signs}
-use Rattle.usp_tool.specs.Words.{Command, check, sign}
-use Rattle.usp_tool.specs.declared.verdict.Verdict.{Verdict}
-use Rattle.usp_tool.specs.declared.verdict.Verdict.TheVariants.{Admitted, Denied}
+use Rattle.usp_tool.proofs.Signing.Line.{of_these}
+use Rattle.usp_tool.specs.Answers.{Answers, Works, WorksInput, no_conf, no_key, works}
+use Rattle.usp_tool.specs.Check.{Checks, ChecksAsk, decides, done, line, stops, with_verdict}
+use Rattle.usp_tool.specs.Check.Line.{ask_of}
+use Rattle.usp_tool.specs.Check.Verdicts.{Decides, IsCall, called, denied, free, verdict_by}
+use Rattle.usp_base.specs.Lines.{lines_of}
+use Rattle.usp_tool.specs.Input.{is_long_input}
+use Rattle.usp_tool.specs.Job.{JobValue, checking, job_of, signing}
+use Rattle.usp_tool.specs.Outcome.{IsConfRefusal, Outcome, empty, fault_name, line_refusal, refusal}
+use Rattle.usp_tool.specs.Sign.{SignsAll, done as signed_done, signs, stops as signed_stops, with_signed}
+use Rattle.usp_tool.specs.Sign.Line.{Signs, signed_uri}
+use Rattle.usp_tool.specs.Words.{Command}
+use Rattle.usp_tool.specs.declared.check.verdict.Verdict.{Verdict}
+use Rattle.usp_tool.specs.declared.check.verdict.Verdict.TheVariants.{Admitted, Denied}
 use Rattle.usp_uri.specs.Faults.{normal_of}
 
-same_some : {A : Type 0} (o : Option A) (a b : A) → o ≡ Some a → o ≡ Some b → a ≡ b
+pub same_some : {A : Type 0} (o : Option A) (a b : A) → o ≡ Some a → o ≡ Some b → a ≡ b
 same_some o a b p q = let both : Some a ≡ Some b = sym p ∙ q in cc
 
-none_some : {A : Type 0} (o : Option A) (a : A) → o ≡ None → o ≡ Some a → ⊥
+pub none_some : {A : Type 0} (o : Option A) (a : A) → o ≡ None → o ≡ Some a → ⊥
 none_some o a p q = let both : None ≡ Some a = sym p ∙ q in cc
 
 same_ok : {A E : Type 0} (r : Result A E) (a b : A) → r ≡ Ok a → r ≡ Ok b → a ≡ b
@@ -144,16 +148,16 @@ record AskWorked (profile : Profile) (room number : ℕ) (calls : List Call) (as
   pub is : outcome ≡ with_verdict number verdict more
 
 abbrev AskBy : Profile → (room number : ℕ) → List Call → Option AskValue → List (List ℕ) → Outcome → List Call → Type 0
-AskBy profile room number calls None lines outcome after = (outcome ≡ refused_line number) × (after ≡ calls)
+AskBy profile room number calls None lines outcome after = (outcome ≡ line_refusal number) × (after ≡ calls)
 AskBy profile room number calls (Some ask) lines outcome after = AskWorked profile room number calls ask lines outcome after
 
 abbrev ChecksBy : Profile → (room number : ℕ) → List Call → List (List ℕ) → Outcome → List Call → Type 0
-ChecksBy profile room number calls [] outcome after = (outcome ≡ nothing) × (after ≡ calls)
+ChecksBy profile room number calls [] outcome after = (outcome ≡ empty) × (after ≡ calls)
 ChecksBy profile room number calls (first ∷ lines) outcome after = ChecksAsk profile room number calls (ask_of first) lines outcome after
 
 by_ask : (profile : Profile) (room number : ℕ) (calls : List Call) (ask : Option AskValue) (lines : List (List ℕ)) (outcome : Outcome) (after : List Call)
     → ChecksAsk profile room number calls ask lines outcome after → AskBy profile room number calls ask lines outcome after
-by_ask profile room _ _ _ _ _ _ (refuses number calls after lines outcome is same) = (is, same)
+by_ask profile room _ _ _ _ _ _ (stops number calls after lines outcome is same) = (is, same)
 by_ask profile room _ _ _ _ _ _ (decides number calls between after ask lines outcome more verdict decided checks is) =
     record { verdict = verdict; between = between; more = more; decided = decided; rest = checks; is = is }
 
@@ -215,24 +219,21 @@ record LineSigned (attribute : List ℕ) (key : KeyValue) (number : ℕ) (first 
   pub more : Outcome
   pub signed : Signs attribute key first text
   pub rest : SignsAll attribute key (number + 1) lines more
-  pub is : outcome ≡ record { text = text ++ (10 ∷ more.text); status = more.status }
+  pub is : outcome ≡ with_signed text more
 
 abbrev SignsBy : List ℕ → KeyValue → ℕ → List (List ℕ) → Outcome → Type 0
-SignsBy attribute key number [] outcome = outcome ≡ nothing
+SignsBy attribute key number [] outcome = outcome ≡ empty
 SignsBy attribute key number (first ∷ lines) outcome =
-    (((text : List ℕ) → Signs attribute key first text → ⊥) × (outcome ≡ refused_line number)) ⊎ LineSigned attribute key number first lines outcome
+    (((text : List ℕ) → Signs attribute key first text → ⊥) × (outcome ≡ line_refusal number)) ⊎ LineSigned attribute key number first lines outcome
 
 by_signed : (attribute : List ℕ) (key : KeyValue) (number : ℕ) (lines : List (List ℕ)) (outcome : Outcome)
     → SignsAll attribute key number lines outcome → SignsBy attribute key number lines outcome
 by_signed attribute key _ _ _ (signed_done number outcome is) = is
-by_signed attribute key _ _ _ (signed_refuses number first lines outcome never is) = inl (never, is)
+by_signed attribute key _ _ _ (signed_stops number first lines outcome never is) = inl (never, is)
 by_signed attribute key _ _ _ (signs number first text lines outcome more signed rest is) =
     inr (record { text = text; more = more; signed = signed; rest = rest; is = is })
 
-abbrev joined : List ℕ → Outcome → Outcome
-joined text more = record { text = text ++ (10 ∷ more.text); status = more.status }
-
-same_joined : (t u : List ℕ) (o p : Outcome) → t ≡ u → o ≡ p → joined t o ≡ joined u p
+same_joined : (t u : List ℕ) (o p : Outcome) → t ≡ u → o ≡ p → with_signed t o ≡ with_signed u p
 same_joined t u o p h k = rw (h, k) refl
 
 abbrev SignedOnce : List ℕ → KeyValue → List (List ℕ) → Type 0
@@ -262,14 +263,19 @@ data IsFault (text : List ℕ) (found : ConfFault) : Type 0 where
   unread : found ≡ fault.Json → RefusesConf fault.Json text → IsFault text found
   fails : Fails text found → IsFault text found
 
-fault_of : (found : ConfFault) (text : List ℕ) → RefusesConf found text → (found ≡ fault.NoMemory → ⊥) → IsFault text found
-fault_of fault.Json text h other = unread refl h
-fault_of fault.NoMemory text h other = absurd (other refl)
-fault_of (fault.Missing of) text h other = fails h
-fault_of (fault.Kind of) text h other = fails h
-fault_of (fault.Range of) text h other = fails h
-fault_of (fault.ShortKey kid) text h other = fails h
-fault_of (fault.Repeat of) text h other = fails h
+fault_of : (found : ConfFault) (text name : List ℕ) → RefusesConf found text → fault_name found ≡ Some name → IsFault text found
+fault_of fault.Json text name h named = unread refl h
+fault_of fault.NoMemory text name h named = let differ : ◌≡◌ {A = Option (List ℕ)} None (Some name) = named in cc
+fault_of (fault.Missing of) text name h named = fails h
+fault_of (fault.Kind of) text name h named = fails h
+fault_of (fault.Range of) text name h named = fails h
+fault_of (fault.ShortKey kid) text name h named = fails h
+fault_of (fault.Repeat of) text name h named = fails h
+
+-- what is named is no want of memory
+pub named_not_memory : (found : ConfFault) (name : List ℕ) → fault_name found ≡ Some name → found ≡ fault.NoMemory → ⊥
+named_not_memory found name named is =
+    let differ : ◌≡◌ {A = Option (List ℕ)} None (Some name) = sym (ap fault_name is) ∙ named in cc
 
 one_fault : (text : List ℕ) (a b : ConfFault) → IsFault text a → IsFault text b → a ≡ b
 one_fault text a b (unread is h) (unread same k) = is ∙ sym same
@@ -279,37 +285,43 @@ one_fault text a b (fails h) (fails k) =
     let json = same_some _ h.json k.json h.reading k.reading in
     same_err (conf_of k.json) a b (ap conf_of (sym json) ∙ h.defined) k.defined
 
-one_work : (command : Command) (value : ConfValue) (lines : List (List ℕ)) (o p : Outcome) → Works command value lines o → Works command value lines p → o ≡ p
-one_work (check name) value lines o p h k =
+one_conf_refusal : (text : List ℕ) (a b : ConfFault) (o p : Outcome) → RefusesConf a text → RefusesConf b text → IsConfRefusal a o → IsConfRefusal b p → o ≡ p
+one_conf_refusal text a b o p h k x y =
+    let found = one_fault text a b (fault_of a text x.0 h x.1) (fault_of b text y.0 k y.1) in
+    let name : x.0 ≡ y.0 = same_some (fault_name b) x.0 y.0 (ap fault_name (sym found) ∙ x.1) y.1 in
+    x.2 ∙ (ap (λ n. refusal (codes "conf " ++ n)) name ∙ sym y.2)
+
+one_work : (job : JobValue) (lines : List (List ℕ)) (o p : Outcome) → Works job lines o → Works job lines p → o ≡ p
+one_work (checking value) lines o p h k =
     (checks_once value.site.profile value.room lines 1 [] o p h.history k.history h.checks k.checks).outcome
-one_work (sign name kid) value lines o p h k =
-    let key : h.0 ≡ k.0 = same_some (key_named value.site.profile.ring kid) h.0 k.0 h.1 k.1 in
-    all_once value.site.profile.attribute k.0 lines 1 o p (subst (λ key. SignsAll value.site.profile.attribute key 1 lines o) key h.2) k.2
+one_work (signing attribute key) lines o p h k = all_once attribute key lines 1 o p h k
 
-by_length : (b : Bool) (command : Command) (value : ConfValue) (lines : List (List ℕ)) (o p : Outcome)
-    → MatchBool b (o ≡ refused (codes "input")) (Works command value lines o) → MatchBool b (p ≡ refused (codes "input")) (Works command value lines p) → o ≡ p
-by_length true command value lines o p h k = h ∙ sym k
-by_length false command value lines o p h k = one_work command value lines o p h k
+by_length : (b : Bool) (job : JobValue) (lines : List (List ℕ)) (o p : Outcome)
+    → MatchBool b (o ≡ refusal (codes "input")) (Works job lines o) → MatchBool b (p ≡ refusal (codes "input")) (Works job lines p) → o ≡ p
+by_length true job lines o p h k = h ∙ sym k
+by_length false job lines o p h k = one_work job lines o p h k
 
-one_worked : (command : Command) (value other : ConfValue) (input again : List ℕ) (o p : Outcome) → value ≡ other → input ≡ again
-    → WorksInput command value input o → WorksInput command other again p → o ≡ p
-one_worked command value other input again o p same e h k =
-    let here : WorksInput command other again o =
-    subst (λ i. WorksInput command other i o) e (subst (λ v. WorksInput command v input o) same h) in
-    by_length (is_long_input again) command other (lines_of again) o p here k
+one_worked : (job other : JobValue) (input again : List ℕ) (o p : Outcome) → job ≡ other → input ≡ again
+    → WorksInput job input o → WorksInput other again p → o ≡ p
+one_worked job other input again o p same e h k =
+    let here : WorksInput other again o = subst (λ i. WorksInput other i o) e (subst (λ j. WorksInput j input o) same h) in
+    by_length (is_long_input again) other (lines_of again) o p here k
+
+-- a configuration that has a job lacks no key
+pub lacks_none : (command : Command) (text : List ℕ) (v w : ConfValue) (job : JobValue) → Configures text v → Configures text w
+    → job_of command v ≡ None → job_of command w ≡ Some job → ⊥
+lacks_none command text v w job h k lacks has =
+    none_some (job_of command w) job (ap (job_of command) (sym (conf.only text v w h k)) ∙ lacks) has
 
 pub one_answer : (command : Command) (text input : List ℕ) (o p : Outcome) → Answers command text (Some input) o → Answers command text (Some input) p → o ≡ p
-one_answer command text input o p (no_conf a h not_a is) (no_conf b k not_b same) =
-    let found = one_fault text a b (fault_of a text h not_a) (fault_of b text k not_b) in
-    is ∙ (ap (λ f. refused (codes "conf " ++ fault_name f)) found ∙ sym same)
-one_answer command text input o p (no_conf a h not_a is) (no_key v k lacks same) = absurd (conf.refused a text v h not_a k)
-one_answer command text input o p (no_conf a h not_a is) (worked v i k has e work) = absurd (conf.refused a text v h not_a k)
-one_answer command text input o p (no_key v h lacks is) (no_conf b k not_b same) = absurd (conf.refused b text v k not_b h)
+one_answer command text input o p (no_conf a h is) (no_conf b k same) = one_conf_refusal text a b o p h k is same
+one_answer command text input o p (no_conf a h is) (no_key v k lacks same) = absurd (conf.refused a text v h (named_not_memory a is.0 is.1) k)
+one_answer command text input o p (no_conf a h is) (works v j i k has e work) = absurd (conf.refused a text v h (named_not_memory a is.0 is.1) k)
+one_answer command text input o p (no_key v h lacks is) (no_conf b k same) = absurd (conf.refused b text v k (named_not_memory b same.0 same.1) h)
 one_answer command text input o p (no_key v h lacks is) (no_key w k lack same) = is ∙ sym same
-one_answer command text input o p (no_key v h lacks is) (worked w i k has e work) =
-    absurd (has (subst (λ c. LacksKey command c) (conf.only text v w h k) lacks))
-one_answer command text input o p (worked v i h has e work) (no_conf b k not_b same) = absurd (conf.refused b text v k not_b h)
-one_answer command text input o p (worked v i h has e work) (no_key w k lacks same) =
-    absurd (has (subst (λ c. LacksKey command c) (conf.only text w v k h) lacks))
-one_answer command text input o p (worked v i h has e work) (worked w j k own f done_too) =
-    one_worked command v w i j o p (conf.only text v w h k) (sym e ∙ f) work done_too
+one_answer command text input o p (no_key v h lacks is) (works w j i k has e work) = absurd (lacks_none command text v w j h k lacks has)
+one_answer command text input o p (works v j i h has e work) (no_conf b k same) = absurd (conf.refused b text v k (named_not_memory b same.0 same.1) h)
+one_answer command text input o p (works v j i h has e work) (no_key w k lacks same) = absurd (lacks_none command text w v j k h lacks has)
+one_answer command text input o p (works v j i h has e work) (works w q a k own f done_too) =
+    let job : j ≡ q = same_some (job_of command w) j q (ap (job_of command) (sym (conf.only text v w h k)) ∙ has) own in
+    one_worked j q i a o p job (sym e ∙ f) work done_too

@@ -2,37 +2,28 @@
 use Rattle.std.proofs.Common.{◌≡◌, ℕ, suc, ◌+◌, ◌≤◌, Bool, true, false, cond, codes, List, [], ◌∷◌, ◌++◌, length, Option, Some, None, Ok, inl, inr, refl, sym, ap, ◌∙◌, subst, arith, append-nil}
 use Rattle.std.specs.Prelude.{slice_get}
 use Rattle.std.specs.List.{list_all}
-use Rattle.std.specs.Option.{is_some}
 use Rattle.std.specs.Result.{result_ok}
-use Rattle.std.specs.Str.{IsAscii, IsUtf8, bytes_eq}
-use Rattle.std.proofs.lemmas.Slice.Zip.{length-zip}
+use Rattle.std.specs.Str.{IsUtf8, bytes_eq}
 use Rattle.std.proofs.lemmas.Str.{IsAscii-append, IsUtf8-from_ascii}
-use Rattle.std.proofs.lemmas.Str.Ascii.{IsAscii-nil}
-use Rattle.base64.proofs.Encoding.{IsAscii-encode_symbols}
-use Rattle.base64.specs.Engines.{url_safe_no_pad}
-use Rattle.base64.specs.Rfc4648.{encode_symbols}
-use Rattle.sha2.specs.Sha256.{sha256}
-use Rattle.usp_claims.proofs.Lengths.{entries_back}
-use Rattle.usp_claims.proofs.Named.{still_kept}
+use Rattle.usp_claims.proofs.Counts.{there_kept}
 use Rattle.usp_claims.proofs.Rows.{tells}
-use Rattle.usp_claims.specs.Changes.{with_claim, with_entry}
-use Rattle.usp_claims.specs.Table.{IsClaimSet, name_of}
+use Rattle.usp_claims.specs.Changes.{with_claim}
+use Rattle.usp_claims.specs.Table.{IsClaimSet}
+use Rattle.usp_claims.specs.declared.limits.TheConstants.{MAX_PAYLOAD}
 use Rattle.usp_claims.specs.declared.table.ClaimName.TheVariants.{Uc}
+use Rattle.usp_json.proofs.ByteLaws.{reading_bytes, tested_ascii}
 use Rattle.usp_json.proofs.CanonLaws.{reads_back}
 use Rattle.usp_json.proofs.KeepLaws.{reading_keeps}
-use Rattle.usp_json.specs.Entries.{entries, value_of}
-use Rattle.usp_json.specs.Kept.{KeepMembers, KeepsLimits, members, string}
+use Rattle.usp_json.specs.Kept.{KeepsLimits, string}
 use Rattle.usp_json.specs.Spells.{IsReading, given}
-use Rattle.usp_json.specs.declared.value.Json.{Json}
 use Rattle.usp_json.specs.declared.value.Json.TheVariants.{Str}
 use Rattle.usp_json.specs.declared.value.Members.{Members}
 use Rattle.usp_jws.proofs.Naming.{sealed_place}
 use Rattle.usp_jws.proofs.Sealing.{sealed_has_parts, sealed_header, sealed_payload, sealed_token}
 use Rattle.usp_jws.proofs.TokenLetters.{token_letters}
-use Rattle.usp_jws.specs.Base64url.{b64u}
 use Rattle.usp_jws.specs.Compact.{IsToken}
 use Rattle.usp_jws.specs.Headers.{IsHeader}
-use Rattle.usp_jws.specs.Keys.{KeyValue, first_repeat}
+use Rattle.usp_jws.specs.Keys.{KeyValue, first_repeat, key_named}
 use Rattle.usp_jws.specs.Letters.{is_kid}
 use Rattle.usp_jws.specs.Parts.{PartsValue, text_of}
 use Rattle.usp_jws.specs.Sealed.{sealed}
@@ -40,6 +31,7 @@ use Rattle.usp_package.proofs.EmbedLaws.{embedded_again, embedded_normal, length
 use Rattle.usp_package.specs.Name.{is_attr_name}
 use Rattle.usp_package.specs.Package.{carried, is_run_byte, package_of}
 use Rattle.usp_rules.proofs.Firsts.{claims_here, header_here, verified_here}
+use Rattle.usp_rules.proofs.Segments.{segment_ascii}
 use Rattle.usp_rules.specs.Asks.{content_in}
 use Rattle.usp_rules.specs.Rules.{AllHold, Holds, HoldsWith}
 use Rattle.usp_rules.specs.Segment.{segment_of}
@@ -47,24 +39,14 @@ use Rattle.usp_rules.specs.Tokens.{Claims, HasClaims, HasHeader, IsVerified, Spe
 use Rattle.usp_rules.specs.declared.profile.Profile.{Profile}
 use Rattle.usp_rules.specs.declared.rule.Rule.{Rule}
 use Rattle.usp_rules.specs.declared.rule.Rule.TheVariants as rule
-use Rattle.usp_tool.proofs.LawsBytes.{reading_bytes, tested_ascii}
-use Rattle.usp_tool.proofs.Signing.{container_set}
-use Rattle.usp_tool.specs.Sign.{Signs, claims_for, is_open, key_named, payload_for, signed_uri}
+use Rattle.usp_tool.proofs.Signing.Line.{container_set}
+use Rattle.usp_tool.specs.Sign.Line.{Signs, claims_for, is_open, payload_for, signed_uri}
 use Rattle.usp_uri.proofs.NormalLaws.{normal_again}
 use Rattle.usp_uri.specs.Components.{query_in}
 use Rattle.usp_uri.specs.Faults.{normal_of}
+use Rattle.usp_uri.specs.declared.fault.TheConstants.{MAX_LEN}
 
 -- ---- the claims that are sealed
-
-b64u_ascii : (bytes : List ℕ) → IsAscii (b64u bytes)
-unfolding b64u
-b64u_ascii bytes =
-    IsAscii-append (encode_symbols url_safe_no_pad.encode_table bytes) []
-    (IsAscii-encode_symbols url_safe_no_pad.encode_table bytes (tested_ascii url_safe_no_pad.encode_table refl)) IsAscii-nil
-
-segment_ascii : (uri : List ℕ) → IsAscii (segment_of uri)
-unfolding segment_of
-segment_ascii uri = IsAscii-append (codes "sha-256;") (b64u (sha256 uri)) (tested_ascii (codes "sha-256;") refl) (b64u_ascii (sha256 uri))
 
 abbrev container_for : List ℕ → List ℕ
 container_for uri = codes "hash:" ++ segment_of uri
@@ -72,28 +54,10 @@ container_for uri = codes "hash:" ++ segment_of uri
 container_utf8 : (uri : List ℕ) → IsUtf8 (container_for uri)
 container_utf8 uri = IsUtf8-from_ascii (container_for uri) (IsAscii-append (codes "hash:") (segment_of uri) (tested_ascii (codes "hash:") refl) (segment_ascii uri))
 
--- a name that is there keeps its place
-same_count : (name : List ℕ) (value : Json) (es : List (List ℕ × Json)) → is_some (value_of name es) ≡ true → length (with_entry name value es) ≡ length es
-same_count name value [] h = cc
-same_count name value (e ∷ es) h = elim (tells (bytes_eq e.0 name)) [
-  | inl hit ↦ rw hit refl
-  | inr miss ↦ let rest = rw miss at h in rw miss (ap suc (same_count name value es rest))
-]
-
-few_kept : (n : ℕ) (names : List (List ℕ)) (values : List Json) → KeepMembers given n names values → length names ≤ 64
-few_kept _ _ _ (members n names values same u apart few k) = few
-
-few_entries : (m : Members) → KeepsLimits m → length (entries m) ≤ 64
-few_entries m k =
-    subst (λ (x : Members). length (entries x) ≤ 64) (sym k.is)
-    (let count = length-zip k.names k.values in let few = few_kept given.levels k.names k.values k.kept in omega (arith, count, few))
-
 container_kept : (uri : List ℕ) (m : Members) → KeepsLimits m → IsClaimSet m → KeepsLimits (with_claim Uc (Str (container_for uri)) m)
 container_kept uri m k set =
     let value = Str (container_for uri) in
-    let count = same_count (name_of Uc) value (entries m) set.contained in
-    let back = ap length (entries_back (with_entry (name_of Uc) value (entries m))) in
-    still_kept Uc value m k (string given.levels value (container_for uri) refl (container_utf8 uri)) (omega (arith, few_entries m k, count, back))
+    there_kept Uc value m set.contained k (string given.levels value (container_for uri) refl (container_utf8 uri))
 
 -- either of two members
 by_test : (b : Bool) (P : Members → Type 0) (x y : Members) → P x → P y → P (cond b x y)
@@ -109,7 +73,7 @@ sealed_set uri m set = by_test (is_open m) IsClaimSet (with_claim Uc (Str (conta
 sealed_reads : (text uri : List ℕ) (m : Members) → SpellsClaims text m → IsReading (payload_for uri m) (claims_for uri m)
 sealed_reads text uri m spells = reads_back (claims_for uri m) (sealed_kept uri m (reading_keeps text m spells.reads) spells.set)
 
-sealed_claims : (text uri : List ℕ) (m : Members) → SpellsClaims text m → length (payload_for uri m) ≤ 4096 → SpellsClaims (payload_for uri m) (claims_for uri m)
+sealed_claims : (text uri : List ℕ) (m : Members) → SpellsClaims text m → length (payload_for uri m) ≤ MAX_PAYLOAD → SpellsClaims (payload_for uri m) (claims_for uri m)
 sealed_claims text uri m spells short = record { short = short; reads = sealed_reads text uri m spells; set = sealed_set uri m spells.set }
 
 -- ---- the token and the package
@@ -118,9 +82,9 @@ abbrev token_for : KeyValue → List ℕ → Members → List ℕ
 token_for key uri m = sealed key (payload_for uri m)
 
 token_is : (attribute text claims uri : List ℕ) (key : KeyValue) (m : Members) → SpellsClaims claims m → is_kid key.kid ≡ true
-    → text ≡ signed_uri attribute key uri m → length text ≤ 8192 → IsToken (token_for key uri m)
+    → text ≡ signed_uri attribute key uri m → length text ≤ MAX_LEN → IsToken (token_for key uri m)
 token_is attribute text claims uri key m spells named is short =
-    sealed_token key (payload_for uri m) named (reading_bytes (payload_for uri m) (claims_for uri m) (sealed_reads claims uri m spells))
+    sealed_token key (payload_for uri m) named (reading_bytes given (payload_for uri m) (claims_for uri m) (sealed_reads claims uri m spells))
     (omega (arith, short, length-embedded attribute uri (token_for key uri m) (query_in uri) text is))
 
 -- what the rules look at
@@ -166,7 +130,7 @@ carries_parts : (ring : List KeyValue) (key : KeyValue) (payload : List ℕ) (m 
 carries_parts ring key payload m place parts apart there named spells is token =
     let header : IsHeader parts.header (Some key.kid) = sealed_header key payload parts named is in
     let has : HasClaims parts.payload m =
-    record { bytes = payload; are_bytes = reading_bytes payload m spells.reads; encoded = sealed_payload key payload parts is; claims = spells } in
+    record { bytes = payload; are_bytes = reading_bytes given payload m spells.reads; encoded = sealed_payload key payload parts is; claims = spells } in
     record {
       compact = token;
       header = header_here parts (Some key.kid) token header;
@@ -182,7 +146,7 @@ carries_sealed ring key payload m place apart there named spells token =
 
 pub signed_passes : (profile : Profile) (kid line text : List ℕ) (key : KeyValue) (cookie : Option (List ℕ)) (moment : ℕ) (s : Signs profile.attribute key line text)
     → is_attr_name profile.attribute ≡ true → first_repeat profile.ring ≡ None → key_named profile.ring kid ≡ Some key → is_kid key.kid ≡ true
-    → length (payload_for s.uri s.members) ≤ 4096 → AllHold (λ r. Holds r profile (record { uri = text; cookie = cookie; moment = moment })) first_six
+    → length (payload_for s.uri s.members) ≤ MAX_PAYLOAD → AllHold (λ r. Holds r profile (record { uri = text; cookie = cookie; moment = moment })) first_six
 signed_passes profile kid line text key cookie moment s attr apart found named short =
     let payload = payload_for s.uri s.members in
     let token = token_is profile.attribute text s.claims s.uri key s.members s.spells named s.signed s.short in

@@ -1,11 +1,8 @@
-pub mod Cutting
-pub mod Deciding
-pub mod Checking
 pub mod Texts
+pub mod Checking
 pub mod Signing
-pub mod Working
-pub mod Known
+pub mod Running
 pub mod LawsLines
-pub mod LawsBytes
 pub mod LawsPassing
 pub mod LawsOnce
+pub mod LawsAnswers

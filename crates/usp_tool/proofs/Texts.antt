@@ -1,9 +1,17 @@
--- Lines of the output, piece by piece.
+-- Texts of the output, piece by piece.
 use Rattle.std.proofs.Common.{◌≡◌, ℕ, codes, List, [], ◌∷◌, ◌++◌, ◌∙◌, append_assoc}
+use Rattle.usp_base.specs.declared.fault.Status.{Status}
+use Rattle.usp_tool.specs.Outcome.{Outcome}
 
-pub refused_line_text : (text digits : List ℕ)
+abbrev pub made : List ℕ → Status → Outcome
+made text status = record { text = text; status = status }
+
+pub same_made : (t u : List ℕ) (s r : Status) → t ≡ u → s ≡ r → made t s ≡ made u r
+same_made t u s r a b = cc
+
+pub line_refusal_text : (text digits : List ℕ)
     → ((text ++ codes "refused line ") ++ digits) ++ 10 ∷ [] ≡ text ++ (codes "refused " ++ ((codes "line " ++ digits) ++ 10 ∷ []))
-refused_line_text text digits =
+line_refusal_text text digits =
     append_assoc (text ++ codes "refused line ") digits (10 ∷ []) ∙ append_assoc text (codes "refused line ") (digits ++ 10 ∷ [])
 
 pub admitted_text : (text digits content : List ℕ)

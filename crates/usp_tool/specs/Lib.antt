@@ -1,10 +1,8 @@
-pub mod Answer
-pub mod Check
-pub mod Line
-pub mod Lines
-pub mod Outcome
-pub mod Run
-pub mod Sign
 pub mod Words
-pub mod Steps
-pub mod Work
+pub mod Input
+pub mod Outcome
+pub mod Check
+pub mod Sign
+pub mod Job
+pub mod Answers
+pub mod Run

@@ -1,6 +1,7 @@
 -- What is written, and how it ends.
-use Rattle.std.specs.Prelude.{ℕ, List, [], ◌∷◌, ◌++◌, codes}
+use Rattle.std.specs.Prelude.{◌≡◌, ℕ, List, [], ◌∷◌, ◌++◌, codes, Option, Some, None}
 use Rattle.std.specs.Fmt.{decimal}
+use Rattle.usp_base.specs.Lines.{line_feed}
 use Rattle.usp_base.specs.declared.fault.Status.{Status}
 use Rattle.usp_base.specs.declared.fault.Status.TheVariants.{Done, Denials, Refused}
 use Rattle.usp_conf.specs.Members as members
@@ -12,25 +13,30 @@ pub record Outcome : Type 0 where
   pub text : List ℕ
   pub status : Status
 
-abbrev pub nothing : Outcome
-nothing = record { text = []; status = Done }
+-- of no lines
+abbrev pub empty : Outcome
+empty = record { text = []; status = Done }
 
-abbrev pub refused : List ℕ → Outcome
-refused what = record { text = codes "refused " ++ (what ++ 10 ∷ []); status = Refused }
+abbrev pub refusal : List ℕ → Outcome
+refusal what = record { text = codes "refused " ++ (what ++ line_feed ∷ []); status = Refused }
 
--- a line of the input by its number
-abbrev pub refused_line : ℕ → Outcome
-refused_line number = refused (codes "line " ++ decimal number)
+-- of a line of the input, by its number
+abbrev pub line_refusal : ℕ → Outcome
+line_refusal number = refusal (codes "line " ++ decimal number)
 
--- what is named of a configuration that is refused
-abbrev pub fault_name : ConfFault → List ℕ
-fault_name fault.Json = codes "json"
-fault_name (fault.Missing member) = members.name_of member
-fault_name (fault.Kind member) = members.name_of member
-fault_name (fault.Range member) = members.name_of member
-fault_name (fault.ShortKey kid) = kid
-fault_name (fault.Repeat member) = members.name_of member
-fault_name fault.NoMemory = codes "memory"
+-- what is named of a configuration that is refused; want of memory refuses none
+abbrev pub fault_name : ConfFault → Option (List ℕ)
+fault_name fault.Json = Some (codes "json")
+fault_name (fault.Missing member) = Some (members.name_of member)
+fault_name (fault.Kind member) = Some (members.name_of member)
+fault_name (fault.Range member) = Some (members.name_of member)
+fault_name (fault.ShortKey kid) = Some kid
+fault_name (fault.Repeat member) = Some (members.name_of member)
+fault_name fault.NoMemory = None
+
+abbrev pub IsConfRefusal : ConfFault → Outcome → Type 0
+IsConfRefusal found outcome =
+    (name : List ℕ) × (fault_name found ≡ Some name) × (outcome ≡ refusal (codes "conf " ++ name))
 
 -- the status is one that an outcome has
 abbrev pub IsOwn : Status → Type 0

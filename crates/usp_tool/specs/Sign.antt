@@ -1,61 +1,29 @@
 -- What `sign` writes.
-use Rattle.std.specs.Prelude.{◌≡◌, ℕ, ◌+◌, ◌≤◌, Bool, false, List, [], ◌∷◌, ◌++◌, length, codes, Option, Some, Ok, if◌then◌else◌}
-use Rattle.std.specs.List.{find}
-use Rattle.std.specs.Option.{option_map_or}
-use Rattle.std.specs.Str.{bytes_eq}
-use Rattle.usp_base.specs.Cuts.{cut_at}
-use Rattle.usp_claims.specs.Changes.{with_claim}
-use Rattle.usp_claims.specs.Table.{text_claim}
-use Rattle.usp_claims.specs.declared.table.ClaimName.TheVariants.{Uc}
-use Rattle.usp_json.specs.Canon.{canon_members}
-use Rattle.usp_json.specs.declared.value.Json.TheVariants.{Str}
-use Rattle.usp_json.specs.declared.value.Members.{Members}
+pub mod Line
+use Rattle.std.specs.Prelude.{◌≡◌, ℕ, ◌+◌, List, [], ◌∷◌, ◌++◌}
 use Rattle.usp_jws.specs.Keys.{KeyValue}
-use Rattle.usp_jws.specs.Sealed.{sealed}
-use Rattle.usp_package.specs.Package.{embedded, nothing as no_package, package_of}
-use Rattle.usp_rules.specs.Segment.{segment_of}
-use Rattle.usp_rules.specs.Tokens.{SpellsClaims}
-use Rattle.usp_tool.specs.Outcome.{Outcome, nothing, refused_line}
-use Rattle.usp_uri.specs.Components.{query_in}
-use Rattle.usp_uri.specs.Faults.{normal_of}
+use Rattle.usp_base.specs.Lines.{line_feed}
+use Rattle.usp_tool.specs.Outcome.{Outcome, empty, line_refusal}
+use Rattle.usp_tool.specs.Sign.Line.{Signs}
 
--- the key of that name
-abbrev pub key_named : List KeyValue → List ℕ → Option KeyValue
-key_named ring kid = find (λ key. bytes_eq key.kid kid) ring
+abbrev pub with_signed : List ℕ → Outcome → Outcome
+with_signed text more = record { text = text ++ (line_feed ∷ more.text); status = more.status }
 
--- the container is `hash:` alone
-abbrev pub is_open : Members → Bool
-is_open members = option_map_or (λ container. bytes_eq container (codes "hash:")) (text_claim (codes "cdniuc") members) false
-
--- the claims that are sealed: a container that is `hash:` alone gets the segment of the URI
-abbrev pub claims_for : List ℕ → Members → Members
-claims_for uri members = if is_open members then with_claim Uc (Str (codes "hash:" ++ segment_of uri)) members else members
-
-abbrev pub payload_for : List ℕ → Members → List ℕ
-payload_for uri members = canon_members (claims_for uri members)
-
-abbrev pub signed_uri : List ℕ → KeyValue → List ℕ → Members → List ℕ
-signed_uri attribute key uri members = embedded attribute uri (query_in uri) (sealed key (payload_for uri members))
-
--- A line is a URI, a space and claims. What is signed for it is the normal form of the URI, which has no package, with the sealed
--- claims as its package, at most 8,192 bytes.
-pub record Signs (attribute : List ℕ) (key : KeyValue) (line text : List ℕ) : Type 0 where
-  pub typed : List ℕ
-  pub claims : List ℕ
-  pub uri : List ℕ
-  pub members : Members
-  pub cut : cut_at 32 line ≡ Some (typed, claims)
-  pub normal : normal_of typed ≡ Ok uri
-  pub bare : package_of attribute uri ≡ no_package
-  pub spells : SpellsClaims claims members
-  pub signed : text ≡ signed_uri attribute key uri members
-  pub short : length text ≤ 8192
-
--- The outcome of lines, the first of which has this number. A line for which nothing is signed is refused, and none behind it is worked.
+-- The outcome of lines, the first of which has this number. A line for which nothing is signed is refused, and
+-- none behind it is signed.
 pub data SignsAll (attribute : List ℕ) (key : KeyValue) : ℕ → List (List ℕ) → Outcome → Type 0 where
-  done : (number : ℕ) (outcome : Outcome) → outcome ≡ nothing → SignsAll attribute key number [] outcome
-  refuses : (number : ℕ) (line : List ℕ) (lines : List (List ℕ)) (outcome : Outcome) → ((text : List ℕ) → Signs attribute key line text → ⊥)
-      → outcome ≡ refused_line number → SignsAll attribute key number (line ∷ lines) outcome
-  signs : (number : ℕ) (line text : List ℕ) (lines : List (List ℕ)) (outcome more : Outcome) → Signs attribute key line text
-      → SignsAll attribute key (number + 1) lines more → outcome ≡ record { text = text ++ (10 ∷ more.text); status = more.status }
+  done : (number : ℕ) (outcome : Outcome) → outcome ≡ empty → SignsAll attribute key number [] outcome
+  stops : (number : ℕ) (line : List ℕ) (lines : List (List ℕ)) (outcome : Outcome)
+      → ((text : List ℕ) → Signs attribute key line text → ⊥) → outcome ≡ line_refusal number
       → SignsAll attribute key number (line ∷ lines) outcome
+  signs : (number : ℕ) (line text : List ℕ) (lines : List (List ℕ)) (outcome more : Outcome)
+      → Signs attribute key line text → SignsAll attribute key (number + 1) lines more
+      → outcome ≡ with_signed text more → SignsAll attribute key number (line ∷ lines) outcome
+
+-- A text is signed for each line, one after the other, and they are printed on lines of their own.
+pub data SignsEach (attribute : List ℕ) (key : KeyValue) : List (List ℕ) → List (List ℕ) → List ℕ → Type 0
+  where
+    none : SignsEach attribute key [] [] []
+    more : (line text : List ℕ) (lines texts : List (List ℕ)) (printed : List ℕ)
+        → Signs attribute key line text → SignsEach attribute key lines texts printed
+        → SignsEach attribute key (line ∷ lines) (text ∷ texts) (text ++ line_feed ∷ printed)

@@ -1,6 +1,7 @@
 -- The words of the command line.
 use Rattle.std.specs.Prelude.{ℕ, List, [], ◌∷◌, ◌++◌, codes, Option, Some, None, if◌then◌else◌}
 use Rattle.std.specs.Str.{bytes_eq}
+use Rattle.usp_base.specs.Lines.{line_feed}
 use Rattle.usp_tool.specs.declared.words.Command.{Command as Words}
 use Rattle.usp_tool.specs.declared.words.Command.TheVariants as words
 
@@ -14,9 +15,10 @@ command_of (word ∷ conf ∷ []) = if bytes_eq word (codes "check") then Some (
 command_of (word ∷ conf ∷ kid ∷ []) = if bytes_eq word (codes "sign") then Some (sign conf kid) else None
 command_of other = None
 
-abbrev pub shown : Words → Command
-shown (words.Check conf) = check conf.now
-shown (words.Sign conf kid) = sign conf.now kid.now
+-- a command of the code, its words as bytes
+abbrev pub in_bytes : Words → Command
+in_bytes (words.Check conf) = check conf.now
+in_bytes (words.Sign conf kid) = sign conf.now kid.now
 
 -- the name of the configuration
 abbrev pub conf_name : Command → List ℕ
@@ -24,5 +26,5 @@ conf_name (check conf) = conf
 conf_name (sign conf kid) = conf
 
 -- the line that is printed for other words
-abbrev pub usage : List ℕ
-usage = codes "usage: usp sign CONF KID | check CONF" ++ 10 ∷ []
+abbrev pub usage_line : List ℕ
+usage_line = codes "usage: usp sign CONF KID | check CONF" ++ line_feed ∷ []

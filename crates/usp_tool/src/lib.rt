@@ -1,23 +1,18 @@
-//! The commands of `usp`.
+//! The commands of `usp`, each over lines: `check` judges requests, `sign` makes signed URIs (RFC 9246).
 #![tactic(auto)]
 
-mod answer;
 mod check;
+mod input;
+mod job;
 mod laws;
-mod line;
-mod lines;
-mod program;
-mod reading;
+mod limits;
+mod memory;
+mod output;
+pub mod run;
 mod sign;
 #[cfg(test)]
-mod sign_tests;
-#[cfg(test)]
 mod tests;
-mod tool;
-mod verdict;
 mod words;
-mod work;
 
-pub use laws::{lines_in_their_grammar_are_answered, one_outcome, signed_passes};
-pub use program::{Outside, run};
-pub use tool::run_tool;
+pub use laws::{limits_are_told, lines_in_their_grammar_are_answered, one_outcome, signed_passes};
+pub use limits::{MAX_INPUT, MAX_LINE};

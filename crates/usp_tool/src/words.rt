@@ -1,7 +1,7 @@
-// The words of the command line.
+//! The words of the command line.
 ghost use Rattle.std.specs.Prelude.{◌≡◌, map, string_bytes};
 ghost use Rattle.std.specs.Option.{option_map};
-ghost use Rattle.usp_tool.specs.Words.{command_of, conf_name, shown};
+ghost use Rattle.usp_tool.specs.Words.{command_of, conf_name, in_bytes};
 
 /// What the words ask for.
 #[derive(Drop)]
@@ -15,7 +15,7 @@ pub enum Command<'a> {
 impl<'a> Command<'a> {
     /// The name of the configuration.
     pub fn conf(&self) -> &'a str
-        ensures { result.now ≡ conf_name (shown self.now) }
+        ensures { result.now ≡ conf_name (in_bytes self.now) }
     {
         match self {
             Command::Check { conf } => *conf,
@@ -26,7 +26,7 @@ impl<'a> Command<'a> {
 
 /// The command that the words behind the program's name ask for. None exactly where they ask for none.
 pub fn command_of(words: &[String]) -> Option<Command<'_>>
-    ensures { option_map shown result ≡ command_of (map (λ w. string_bytes w) words.now) }
+    ensures { option_map in_bytes result ≡ command_of (map (λ w. string_bytes w) words.now) }
 {
     match words {
         [word, conf] if word.as_str() == "check" => Some(Command::Check {

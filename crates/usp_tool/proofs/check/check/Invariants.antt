@@ -1,5 +1,5 @@
 use Rattle.std.proofs.Common.{◌≡◌, length}
-use Rattle.usp_tool.proofs.Checking.{Loop}
+use Rattle.usp_tool.proofs.Checking.Lines.{Loop}
 use Rattle.usp_tool.proofs.check.check.Given as goal
 
 -- the lines so far, under the profile of the configuration

@@ -1,8 +1,9 @@
 use Rattle.std.proofs.Common.{◌∙◌, sym, ap, subst, List, ℕ, ◌++◌, ◌∷◌, []}
-use Rattle.usp_tool.specs.Lines.{lines_of}
-use Rattle.usp_tool.specs.Sign.{Signs, SignsAll}
-use Rattle.usp_tool.proofs.Signing.{signed_done, signed_first, signed_more, signed_refused}
-use Rattle.usp_tool.proofs.Checking.{empty_is}
+use Rattle.usp_base.specs.Lines.{lines_of}
+use Rattle.usp_tool.specs.Sign.{SignsAll}
+use Rattle.usp_tool.specs.Sign.Line.{Signs}
+use Rattle.usp_tool.proofs.Signing.Lines.{signed_done, signed_first, signed_more, signed_refused}
+use Rattle.usp_tool.proofs.Checking.Lines.{empty_is}
 use Rattle.usp_tool.proofs.sign.sign.Goals as goal
 
 pub loop-rest-init : goal.loop-rest-init
@@ -20,7 +21,7 @@ returns-in_default-clause-signed c =
     let none : (signed : List ℕ) → Signs c.args.attribute.now c.args.key.now c.first_line.result.0.now signed → ⊥ = rw c.in_default.is at c.in_ok-signed.ensures in
     subst (SignsAll c.args.attribute.now c.args.key.now 1 (lines_of c.args.input.now)) (sym c.new.ensures)
     (signed_refused c.args.attribute.now c.args.key.now c.args.input.now c.loop-rest.number c.loop-rest.text.items c.loop-rest.rest.now c.first_line.result.0.now
-    c.first_line.result.1.now c.push_refused_line.new.text.items c.loop-rest.invariant c.first_line.ensures.lines none c.in_ok-push_refused_line.ensures)
+    c.first_line.result.1.now c.push_line_refusal.new.text.items c.loop-rest.invariant c.first_line.ensures.lines none c.in_ok-push_line_refusal.ensures)
 
 pub returns-clause-signed : goal.returns-clause-signed
 returns-clause-signed c =

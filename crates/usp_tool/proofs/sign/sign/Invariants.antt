@@ -1,5 +1,5 @@
 use Rattle.std.proofs.Common.{length}
-use Rattle.usp_tool.proofs.Signing.{Signed}
+use Rattle.usp_tool.proofs.Signing.Lines.{Signed}
 use Rattle.usp_tool.proofs.sign.sign.Given as goal
 
 -- the lines so far
