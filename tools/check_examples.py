@@ -9,7 +9,7 @@ A mark is a line of the page, which readers do not see, before a block of comman
 
 The block begins with ```sh. Its lines are run one after the other by a shell at the top of the repository. What is
 printed stands in the next block that begins with ```text, before the next mark. `[..]` in it stands for any letters of
-one line. The program is crates/usp/out/usp; where it is not built yet, `rt run` builds it.
+one line. The program is crates/usp/out/usp, which `rt run` builds where it is not that of these files.
 
 Usage: tools/check_examples.py [PAGE ..]. The status is 1 where an example differs.
 """
@@ -66,8 +66,7 @@ def fault_of(commands, expected, status):
 
 
 def main():
-    if not PROGRAM.exists():
-        subprocess.run(["rt", "run"], cwd=PROGRAM.parent.parent, stdin=subprocess.DEVNULL, check=False)
+    subprocess.run(["rt", "run"], cwd=PROGRAM.parent.parent, stdin=subprocess.DEVNULL, check=False)
     count, faults = 0, 0
     for page in pages():
         for line, commands, expected, status in examples(page):

@@ -1,4 +1,4 @@
-// Expressions with texts, answers and the places of faults, from POSIX's rules.
+//! Expressions with texts, answers and the places of faults, from POSIX's rules.
 ghost use Rattle.std.specs.Prelude.{◌≡◌, ◌<◌};
 
 use crate::{EreFault, compile, scratch};
@@ -27,9 +27,9 @@ fn match_with<L: Ledger>(
 }
 
 // Whether the expression finds some part of the text.
-fn found(alloc: Global, expression: &str, text: &str) -> Result<bool, EreFault> {
+fn found(alloc: Global, expression: &str, text: &[u8]) -> Result<bool, EreFault> {
     let blank = Blank::new(1);
-    match_with::<Brand>(alloc, blank, expression.as_bytes(), text.as_bytes())
+    match_with::<Brand>(alloc, blank, expression.as_bytes(), text)
 }
 
 // An expression, a text, and whether the expression finds a part of it.
@@ -284,7 +284,7 @@ const FAULTS: [(&str, EreFault); 68] = [
 // The first case in which an expression finds a part of its text and should not, or the other way round.
 fn wrong_match(alloc: Global, cases: &[(&str, &str, bool)]) -> Option<usize> {
     for (i, (expression, text, want)) in cases.iter().enumerate() {
-        if found(alloc, expression, text) != Ok(*want) {
+        if found(alloc, expression, text.as_bytes()) != Ok(*want) {
             return Some(i);
         }
     }
@@ -300,7 +300,7 @@ fn finds_the_parts_of_texts_that_match(rt: HostRuntime) -> Result<(), Fail> {
 // The first case in which a text is not refused as it should be.
 fn wrong_fault(alloc: Global, cases: &[(&str, EreFault)]) -> Option<usize> {
     for (i, (expression, want)) in cases.iter().enumerate() {
-        if found(alloc, expression, "") != Err(*want) {
+        if found(alloc, expression, b"") != Err(*want) {
             return Some(i);
         }
     }
@@ -403,8 +403,7 @@ const RUNS: [(&str, u8, u8); 25] = [
 
 // Whether the expression finds the byte.
 fn found_byte(alloc: Global, expression: &str, byte: u8) -> Result<bool, EreFault> {
-    let blank = Blank::new(1);
-    match_with::<Brand>(alloc, blank, expression.as_bytes(), &[byte])
+    found(alloc, expression, &[byte])
 }
 
 // The first run with a byte at its bounds, or beside them, that is not found as it should be.
@@ -434,31 +433,10 @@ fn holds_the_bytes_of_a_class_up_to_its_bounds(rt: HostRuntime) -> Result<(), Fa
 }
 
 // Whether the expression finds a part of the text, and how many steps that takes at most.
-fn match_and_most<L: Ledger>(
-    alloc: Global,
-    blank: Blank,
-    expression: &str,
-    text: &[u8],
-) -> Result<(bool, usize), EreFault>
-    requires name { blank.name ≡ L.name }
-    requires parts { blank.parts ≡ L.parts }
-    requires some { 0 < blank.parts }
-{
-    let ere = compile(alloc, expression.as_bytes())?;
-    let Ok(mut scratch) = scratch(alloc, &ere) else {
-        return Err(EreFault::NoMemory);
-    };
-    let mut steps = Steps::<L>::new(blank);
-    let found = ere.is_match(text, &mut scratch, &mut steps);
-    Ok((
-        found,
-        text.len().saturating_add(1).saturating_mul(ere.size()),
-    ))
-}
-
 fn found_and_most(alloc: Global, expression: &str, text: &[u8]) -> Result<(bool, usize), EreFault> {
-    let blank = Blank::new(1);
-    match_and_most::<Brand>(alloc, blank, expression, text)
+    let size = compile(alloc, expression.as_bytes())?.size();
+    let most = text.len().saturating_add(1).saturating_mul(size);
+    Ok((found(alloc, expression, text)?, most))
 }
 
 // The expressions that are known to make a search by trying slow.
@@ -498,10 +476,14 @@ fn example<L: Ledger>(alloc: Global, blank: Blank) -> Result<bool, Fail>
     Ok(ere.is_match(b"https://a.example/v", &mut room, &mut steps))
 }
 
+fn example_finds(alloc: Global) -> Result<bool, Fail> {
+    let blank = Blank::new(1);
+    example::<Brand>(alloc, blank)
+}
+
 #[test]
 fn matches_as_on_the_first_page(rt: HostRuntime) -> Result<(), Fail> {
-    let blank = Blank::new(1);
-    assert!(rt; example::<Brand>(rt.alloc(), blank)?);
+    assert!(rt; example_finds(rt.alloc())?);
     Ok(())
 }
 
