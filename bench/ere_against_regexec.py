@@ -7,15 +7,18 @@ In crates/usp_bench_ere:
 
 COMMAND runs the program of that folder, as `rt run` does. It reads lines `EXPRESSION<tab>TEXT` and
 prints for each `found`, `none` or the fault. Random expressions and texts are tried, and each
-difference is printed with its reason. The status is 1 where a difference has no reason that is known.
+difference is printed with its reason. Where both take an expression and one alone finds a part of the text, Python's
+`re` is asked too. The status is 1 where a difference has no reason that is known.
 """
 
 import argparse
 import ctypes
 import ctypes.util
 import random
+import re
 import subprocess
 import sys
+import warnings
 from collections import Counter
 
 PIECES = list("aab(()|*+?^$.[]{}-\\,:12") + [
@@ -50,13 +53,41 @@ class Library:
         return "found" if found else "none"
 
 
+# The classes (POSIX, Base Definitions, section 7.3.1) as Python spells them inside brackets.
+CLASSES = {"[:alpha:]": "A-Za-z", "[:digit:]": "0-9"}
+
+
+def finds_by_python(expression, text):
+    """What Python's `re` answers for the expression, spelled as `re` wants it; None where it takes none."""
+    spelled, place = "", 0
+    while place < len(expression):
+        bracket = re.match(r"\[\^?\]?(?:\[:[a-z]+:\]|[^]])*\]", expression[place:])
+        if expression[place] == "\\":
+            spelled += re.escape(expression[place + 1 : place + 2])
+            place += 2
+        elif bracket:
+            inside = bracket[0][1:-1].replace("\\", "\\\\")
+            for name, members in CLASSES.items():
+                inside = inside.replace(name, members)
+            spelled += f"[{inside.replace('[', chr(92) + '[')}]"
+            place += len(bracket[0])
+        else:
+            spelled += {"$": r"\Z"}.get(expression[place], expression[place])
+            place += 1
+    warnings.simplefilter("ignore", FutureWarning)
+    try:
+        return "found" if re.search(spelled, text, re.DOTALL) else "none"
+    except re.error:
+        return None
+
+
 def random_case(generator):
     expression = "".join(generator.choice(PIECES) for _ in range(generator.randint(0, 8)))
     text = "".join(generator.choice(TEXT) for _ in range(generator.randint(0, 6)))
     return expression, text
 
 
-def reason_for(expression, ours, theirs):
+def reason_for(expression, text, ours, theirs):
     """Why the two answers differ, or None where no reason is known."""
     if ours == theirs or (theirs == "refused" and ours not in ("found", "none")):
         return ""
@@ -70,6 +101,8 @@ def reason_for(expression, ours, theirs):
         return "more than 4,000 nodes"
     if any(operator in expression for operator in GNU_OPERATORS):
         return "a character by itself here, an operator of the GNU library"
+    if theirs != "refused" and finds_by_python(expression, text) == ours:
+        return "the library stands alone: Python's `re` answers as here"
     return None
 
 
@@ -93,7 +126,7 @@ def main():
     reasons = Counter()
     for (expression, text), ours in zip(cases, answers):
         theirs = library.answer(expression, text)
-        reason = reason_for(expression, ours, theirs)
+        reason = reason_for(expression, text, ours, theirs)
         if reason == "":
             reasons["the same"] += 1
             continue
