@@ -4,21 +4,14 @@
 
 mod outside;
 
-ghost use Rattle.std.specs.Prelude.{◌≡◌, map, string_bytes};
-ghost use Rattle.std.specs.Process.{exit_status};
-ghost use Rattle.usp_base.specs.Statuses.{status_number};
-ghost use Rattle.usp_base.specs.declared.fault.Status.{Status};
-ghost use Rattle.usp_tool.specs.Run.{Runs, world_of};
-
 use outside::{Folder, Incoming, Outgoing};
-use std::alloc::Global;
 use std::io::ErrorKind;
 use std::process::ExitCode;
 use std::rt::Runtime;
 use std::{env, io};
-use usp_base::{Files, Sink, Source, Status};
+use usp_base::Status;
 use usp_ext::{Kit, equals, is_any, is_at_most, is_one_of, is_path_prefix};
-use usp_tool::run::{Outside, run};
+use usp_tool::run::{Outside, run_to_the_end};
 
 // The words behind the program's name.
 fn words_of<R: Runtime + AllocGlobal>(rt: &R) -> io::Result<Vec<String>> {
@@ -29,20 +22,6 @@ fn words_of<R: Runtime + AllocGlobal>(rt: &R) -> io::Result<Vec<String>> {
         words.push(word)?;
     }
     Ok(words)
-}
-
-// Runs the words, and answers the number of the status.
-fn run_to_the_end<F: Files, S: Source, K: Sink>(
-    alloc: Global,
-    words: &[String],
-    outside: &mut Outside<F, S, K>,
-) -> ExitCode
-    ensures { (status : Status) × (exit_status result ≡ status_number status)
-        × Runs (map (λ w. string_bytes w) words.now)
-        (world_of F.Files S.Source K.Sink outside.old.files outside.old.input outside.old.out)
-        (world_of F.Files S.Source K.Sink outside.new.files outside.new.input outside.new.out) status }
-{
-    run(alloc, words, outside).exit_code()
 }
 
 fn main(rt: HostRuntime) -> ExitCode {

@@ -1,6 +1,9 @@
 //! The top call: a command over what is outside.
 ghost use Rattle.std.specs.Prelude.{◌≡◌, ◌⊎◌, map, string_bytes, List, ℕ, Some, IfOk, IsErrOf};
+ghost use Rattle.std.specs.Process.{exit_status};
 ghost use Rattle.usp_base.specs.Outside.{Rose, file_of};
+ghost use Rattle.usp_base.specs.Statuses.{status_number};
+ghost use Rattle.usp_base.specs.declared.fault.Status.{Status};
 ghost use Rattle.usp_base.specs.declared.files.MemoryFile.{MemoryFile};
 ghost use Rattle.usp_tool.specs.Answers.{Answers, IsRefusedUnread};
 ghost use Rattle.usp_tool.specs.Outcome.{IsOwn};
@@ -13,6 +16,7 @@ use crate::limits::MAX_INPUT;
 use crate::output::{Outcome, conf_refusal, put_text, refusal};
 use crate::words::{Command, command_of};
 use std::alloc::Global;
+use std::process::ExitCode;
 use usp_base::{Files, LoadFault, Sink, Source, Status};
 use usp_conf::read_conf;
 use usp_ext::Kit;
@@ -108,8 +112,7 @@ pub fn run_tool<F: Files, S: Source, K: Sink>(
     }
 }
 
-/// The whole program over its outside: reads the words and runs their command. `main` makes the real
-/// objects, calls it, and ends with the status's number.
+/// The whole program over its outside: reads the words and runs their command.
 pub fn run<F: Files, S: Source, K: Sink>(
     alloc: Global,
     words: &[String],
@@ -130,4 +133,19 @@ pub fn run<F: Files, S: Source, K: Sink>(
         &mut outside.input,
         &mut outside.out,
     )
+}
+
+/// The same, answering the exit code, which is the number of the status. `main` makes the real objects, calls it,
+/// and ends with what it answers.
+pub fn run_to_the_end<F: Files, S: Source, K: Sink>(
+    alloc: Global,
+    words: &[String],
+    outside: &mut Outside<F, S, K>,
+) -> ExitCode
+    ensures { (status : Status) × (exit_status result ≡ status_number status)
+        × Runs (map (λ w. string_bytes w) words.now)
+        (world_of F.Files S.Source K.Sink outside.old.files outside.old.input outside.old.out)
+        (world_of F.Files S.Source K.Sink outside.new.files outside.new.input outside.new.out) status }
+{
+    run(alloc, words, outside).exit_code()
 }
