@@ -13,6 +13,7 @@ pub mod Pairs
 pub mod PieceLaws
 pub mod PlainLaws
 pub mod ReadLaws
+pub mod Sizes
 pub mod Texts
 pub mod WideLaws
 pub mod Written

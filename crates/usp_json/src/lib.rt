@@ -12,6 +12,7 @@
 #![tactic(auto)]
 
 mod copy;
+mod count;
 mod fault;
 mod frame;
 mod laws;
@@ -29,6 +30,7 @@ mod text;
 mod value;
 mod write;
 
+pub use count::canonical_len;
 pub use fault::JsonFault;
 pub use laws::{
     changes_keep_the_limits, keeps_unescaped_texts, leaves_room_for_a_member_more, limits_are_told,

@@ -2,7 +2,7 @@
 
 use crate::{
     Items, Json, JsonFault, MAX_LEVELS, MAX_MEMBERS, Members, NoMemory, NumText, Text,
-    read_members, write_json, write_members,
+    canonical_len, read_members, write_json, write_members,
 };
 use std::alloc::{AllocError, Global};
 use std::test::Fail;
@@ -219,6 +219,37 @@ fn writes_what_was_pushed_and_set(rt: HostRuntime) -> Result<(), Fail> {
             text.as_slice() == b"{\"n\":18,\"t\":\"x\",\"l\":[true]}".as_slice()
         ),
         Err(_) => assert!(rt; false),
+    }
+    Ok(())
+}
+
+// Whether the length that is counted, and that of the text that is written, are so many bytes.
+fn counts(alloc: Global, text: &[u8], expected: usize) -> Result<bool, JsonFault> {
+    let members = read_members(alloc, text)?;
+    let written = write_members(alloc, &members)?.len();
+    Ok(written == expected && canonical_len(&members) == expected)
+}
+
+// The lengths are those of Python's `json`, which escapes the same bytes.
+#[test]
+fn counts_what_is_written(rt: HostRuntime) -> Result<(), Fail> {
+    let table: [(&[u8], usize); 10] = [
+        (b"{}", 2),
+        (b" { } ", 2),
+        (b"{\"a\":null,\"b\":true,\"c\":false}", 29),
+        (b"{\"a\" : [ ] , \"b\" : { } }", 15),
+        (b"{\"a\":[1, -0.5e1 ,18446744073709551616]}", 37),
+        (b"{\"a\":[\"x\",[\"y\",[]],{\"z\":{}}]}", 29),
+        (b"{\"\\u0061\\\"\":\"\\u00e9\\/\"}", 13),
+        (b"{\"a\":\"\\\"\\\\\\b\\t\\n\\f\\r\"}", 22),
+        (
+            b"{\"a\":\"\\u0000\\u0007\\u000b\\u000e\\u001f\\u0020\\u007f\"}",
+            40,
+        ),
+        (b"{\"a\":\"\\u20ac\\ud83d\\ude00\",\"\\u0001\":\"\"}", 27),
+    ];
+    for row in table.iter() {
+        assert!(rt; counts(rt.alloc(), row.0, row.1) == Ok(true));
     }
     Ok(())
 }
