@@ -9,8 +9,8 @@ use Rattle.std.specs.Str.{bytes_eq}
 use Rattle.usp_json.specs.declared.value.Json.{Json}
 use Rattle.usp_json.specs.declared.value.Members.{Members}
 use Rattle.usp_json.specs.declared.value.Json.TheViews.{roll-out-Members}
-use Rattle.usp_json.specs.Entries.{entries, members_of, place_of, IsPaired}
-use Rattle.usp_claims.specs.Table.{name_of}
+use Rattle.usp_json.specs.Entries.{entries, members_of, place_of, value_of, IsPaired}
+use Rattle.usp_claims.specs.Table.{claim, name_of}
 use Rattle.usp_claims.specs.Changes.{with_entry, of_entries, with_claim}
 use Rattle.usp_claims.specs.declared.table.ClaimName.{ClaimName}
 
@@ -86,3 +86,13 @@ absent name value m k paired h names values =
     let same : length (m.names ++ name_of name ∷ []) ≡ length (m.values ++ value ∷ []) = omega (arith, paired, length-append m.names (name_of name ∷ []), length-append m.values (value ∷ [])) in
     let lists : members_of k.names k.values ≡ members_of (m.names ++ name_of name ∷ []) (m.values ++ value ∷ []) = rw (names, values) refl in
     sym (whole k) ∙ (lists ∙ (sym (of_lists (m.names ++ name_of name ∷ []) (m.values ++ value ∷ []) same) ∙ ap of_entries (sym (last_there (name_of name) value m.names m.values paired h))))
+
+no_value_of : (name : List ℕ) (names : List (List ℕ)) (values : List Json) → ((k : ℕ) → k < length names → bytes_eq (get_or names k []) name ≡ false) → value_of name (zip names values) ≡ None
+no_value_of name [] values miss = refl
+no_value_of name (n ∷ names) [] miss = refl
+no_value_of name (n ∷ names) (v ∷ values) miss =
+    let is : bytes_eq n name ≡ false = miss 0 (omega arith) in
+    rw is (no_value_of name names values (λ k lt. miss (suc k) (omega arith)))
+
+pub no_value : (name : ClaimName) (m : Members) → place_of (name_of name) m.names ≡ None → claim (name_of name) m ≡ None
+no_value name m h = no_value_of (name_of name) m.names m.values (none_at (name_of name) m.names h)

@@ -1,8 +1,7 @@
 -- How long the canonical text is with one claim changed.
-use Rattle.std.proofs.Common.{◌≡◌, ℕ, ◌+◌, ◌*◌, ◌-◌, ◌<◌, ◌≤◌, true, List, [], ◌∷◌, ◌++◌, length, map, Option, Some, None, inl, inr, refl, sym, ap, ◌∙◌, arith}
+use Rattle.std.proofs.Common.{◌≡◌, ℕ, ◌+◌, ◌*◌, ◌-◌, ◌<◌, ◌≤◌, List, [], ◌∷◌, ◌++◌, length, map, Option, Some, None, inl, inr, refl, sym, ap, ◌∙◌, arith}
 use Rattle.std.specs.Fmt.{decimal}
 use Rattle.std.specs.List.{zip}
-use Rattle.std.specs.Option.{is_some}
 use Rattle.std.specs.Str.{bytes_eq}
 use Rattle.std.proofs.lemmas.Fmt.{length-decimal-le}
 use Rattle.std.proofs.lemmas.List.{length-append}
@@ -17,7 +16,8 @@ use Rattle.usp_claims.specs.declared.table.ClaimName.{ClaimName}
 use Rattle.usp_claims.specs.declared.table.ClaimName.TheVariants.{Iss, Sub, Aud, Exp, Nbf, Iat, Jti, Version, Crit, Ip, Uc, Ets, Stt, Std}
 use Rattle.usp_claims.proofs.Changed.{whole}
 use Rattle.usp_claims.proofs.Rows.{tells}
-use Rattle.usp_claims.proofs.Shorter.{escape_size, quoted, bracketed, behind_size, member_size}
+use Rattle.usp_json.proofs.Sizes.{quoted, bracketed, behind_size, member_size}
+use Rattle.usp_claims.proofs.Shorter.{escape_size}
 use Rattle.usp_json.proofs.CanonLaws.{canon_number, canon_string, canon_of}
 use Rattle.usp_claims.specs.declared.limits.TheConstants.{MAX_NUMBER}
 
@@ -91,10 +91,6 @@ added name value (e ∷ es) h = elim (tells (bytes_eq e.0 name)) [
       rw miss (omega arith)
 ]
 
-some_size : (name : List ℕ) (es : List (List ℕ × Json)) → is_some (value_of name es) ≡ true → 0 < size es
-some_size name [] h = cc h
-some_size name (e ∷ es) h = let a = size_cons e es in omega arith
-
 name_size : (name : ClaimName) → length (canon_text (name_of name)) ≡ length (name_of name) + 2
 name_size Iss = refl
 name_size Sub = refl
@@ -115,11 +111,11 @@ with_size : (name : ClaimName) (value : Json) (m : Members) → length (canon_me
 with_size name value m = canon_size (with_claim name value m) ∙ ap (λ l. size l - 1 + 2) (entries_back (with_entry (name_of name) value (entries m)))
 
 -- with a claim that was there
-pub record IsExchanged (name : ClaimName) (value earlier : Json) (m : Members) : Type 0 where
-  pub less : length (canon earlier) ≤ length (canon_members m)
-  pub same : length (canon_members (with_claim name value m)) ≡ length (canon_members m) - length (canon earlier) + length (canon value)
+record IsExchanged (name : ClaimName) (value earlier : Json) (m : Members) : Type 0 where
+  less : length (canon earlier) ≤ length (canon_members m)
+  same : length (canon_members (with_claim name value m)) ≡ length (canon_members m) - length (canon earlier) + length (canon value)
 
-pub exchanged : (name : ClaimName) (value earlier : Json) (m : Members) → claim (name_of name) m ≡ Some earlier → IsExchanged name value earlier m
+exchanged : (name : ClaimName) (value earlier : Json) (m : Members) → claim (name_of name) m ≡ Some earlier → IsExchanged name value earlier m
 exchanged name value earlier m h =
     let r = replaced (name_of name) value earlier (entries m) h in
     let a = canon_size m in
@@ -127,17 +123,6 @@ exchanged name value earlier m h =
     let l = r.less in
     let s = r.same in
     record { less = omega arith; same = omega arith }
-
--- with a claim that was not there, where others were
-pub appended : (name other : ClaimName) (value : Json) (m : Members) → claim (name_of name) m ≡ None → is_some (claim (name_of other) m) ≡ true
-    → length (canon_members (with_claim name value m)) ≡ length (canon_members m) + length (name_of name) + 4 + length (canon value)
-appended name other value m h some =
-    let r = added (name_of name) value (entries m) h in
-    let a = canon_size m in
-    let b = with_size name value m in
-    let l = some_size (name_of other) (entries m) some in
-    let n = name_size name in
-    omega arith
 
 grows_by : (name : ClaimName) (value : Json) (m : Members) (o : Option Json) → claim (name_of name) m ≡ o
     → length (canon_members (with_claim name value m)) ≤ length (canon_members m) + length (name_of name) + 4 + length (canon value)

@@ -6,7 +6,7 @@ use Rattle.usp_json.specs.declared.value.Json.{Json as JsonValue}
 use Rattle.usp_json.specs.declared.value.Members.{Members}
 use Rattle.usp_json.specs.declared.fault.JsonFault.{JsonFault}
 use Rattle.usp_json.specs.declared.fault.JsonFault.TheVariants.{Syntax, Duplicate, Deep, Many, NoMemory as NoJsonMemory}
-use Rattle.usp_json.specs.Faults.{Refuses}
+use Rattle.usp_json.specs.Faults.{RefusesJson}
 use Rattle.usp_json.specs.Spells.{given, IsReading}
 use Rattle.usp_json.proofs.FaultLaws.{reads_once}
 use Rattle.usp_claims.specs.Table.{name_of, rows, claim, fits, IsClaimSet}
@@ -39,7 +39,7 @@ no_fault_of m k payload fault reads other is set =
     let clash : Some fault ≡ None = sym is ∙ none in
     cc
 
-no_object : (payload : List ℕ) (m : Members) (fault : JsonFault) → Refuses payload fault → fault ≢ NoJsonMemory → IsReading payload m → ⊥
+no_object : (payload : List ℕ) (m : Members) (fault : JsonFault) → RefusesJson fault payload → fault ≢ NoJsonMemory → IsReading payload m → ⊥
 no_object payload m (Syntax at) r n reads = r.0.no_reading m reads
 no_object payload m (Duplicate at) r n reads = r.0.no_reading m reads
 no_object payload m (Deep at) r n reads = r.0.no_reading m reads

@@ -14,6 +14,7 @@ use Rattle.usp_json.specs.Grammar.{escaped, IsUnit, SpellsChar, plain, short, un
 use Rattle.usp_json.specs.Spells.{Limits, given, word_of, Spells, null, boolean, number, string, array, object, SpellsArray, no_items, items, SpellsItems, last_item, more_items, SpellsPadded, padded, SpellsObject, no_members, members, SpellsMembers, last_member, more_members, SpellsMember, member, IsReading}
 use Rattle.usp_json.specs.Canon.{hex_digit, escape_of, escaped_text, canon_text, behind, commas, member_of, canon, canon_members}
 use Rattle.usp_json.proofs.CanonLaws.{escaped_append, own_byte, high_byte, canon_null, canon_boolean, canon_number, canon_string, canon_array, canon_of, canon_object}
+use Rattle.usp_json.proofs.Sizes.{quoted, bracketed, behind_size, member_size}
 use Rattle.usp_json.proofs.CharLemmas.{four, one, two_bytes, three_of, four_of, shape}
 
 -- an escape has at most 6 bytes, and at most 2 where there is a short one
@@ -157,9 +158,6 @@ chars_short _ _ (more c bytes front back all text s rest is spelled) =
     let f : length text ≡ length front + length back = rw spelled (length-append front back) in
     omega arith
 
-pub quoted : (text : List ℕ) → length (34 ∷ (text ++ 34 ∷ [])) ≡ length text + 2
-quoted text = let e = length-append text (34 ∷ []) in omega arith
-
 text_short : (bytes text : List ℕ) → SpellsText bytes text → length (canon_text bytes) ≤ length text
 text_short bytes text s =
     let h = chars_short bytes s.0 s.2 in
@@ -167,20 +165,10 @@ text_short bytes text s =
     let f = quoted (escaped_text bytes) in
     omega arith
 
--- between brackets
-pub bracketed : (l r : ℕ) (xs : List ℕ) → length (l ∷ (xs ++ r ∷ [])) ≡ length xs + 2
-bracketed l r xs = let e = length-append xs (r ∷ []) in omega arith
-
 -- the texts with commas between them are shorter than with a comma before each
 commas_size : (texts : List (List ℕ)) → length (commas texts) ≤ length (behind texts) - 1
 commas_size [] = omega arith
 commas_size (text ∷ texts) = omega arith
-
-pub behind_size : (text : List ℕ) (texts : List (List ℕ)) → length (behind (text ∷ texts)) ≡ 1 + length text + length (behind texts)
-behind_size text texts = let e = length-append text (behind texts) in omega arith
-
-pub member_size : (name text : List ℕ) → length (member_of (name, text)) ≡ length (canon_text name) + 1 + length text
-member_size name text = let e = length-append (canon_text name) (58 ∷ text) in omega arith
 
 abbrev object_text : List (List ℕ) → List Json → List ℕ
 object_text names values = 123 ∷ (commas (map member_of (zip names (map canon values))) ++ 125 ∷ [])

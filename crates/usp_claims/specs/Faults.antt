@@ -6,7 +6,7 @@ use Rattle.usp_json.specs.declared.value.Members.{Members}
 use Rattle.usp_json.specs.declared.fault.JsonFault.{JsonFault}
 use Rattle.usp_json.specs.declared.fault.JsonFault.TheVariants.{NoMemory as NoJsonMemory}
 use Rattle.usp_json.specs.Spells.{IsReading}
-use Rattle.usp_json.specs.Faults.{Refuses}
+use Rattle.usp_json.specs.Faults.{RefusesJson}
 use Rattle.usp_claims.specs.Table.{rows, claim, name_of, has_kind, fits}
 use Rattle.usp_claims.specs.declared.table.ClaimName.TheVariants.{Uc}
 use Rattle.usp_claims.specs.declared.limits.TheConstants.{MAX_PAYLOAD}
@@ -39,7 +39,7 @@ HasFault fault payload =
 -- what a fault says of a payload; want of memory is free
 abbrev pub RefusesClaims : ClaimFault → List ℕ → Type 0
 RefusesClaims TooLong payload = MAX_PAYLOAD < length payload
-RefusesClaims (Json fault) payload = (length payload ≤ MAX_PAYLOAD) × (fault ≢ NoJsonMemory) × Refuses payload fault
+RefusesClaims (Json fault) payload = (length payload ≤ MAX_PAYLOAD) × (fault ≢ NoJsonMemory) × RefusesJson fault payload
 RefusesClaims (Kind name) payload = HasFault (Kind name) payload
 RefusesClaims (Range name) payload = HasFault (Range name) payload
 RefusesClaims NoContainer payload = HasFault NoContainer payload

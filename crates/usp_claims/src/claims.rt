@@ -1,6 +1,6 @@
 //! Claim sets.
 
-ghost use Rattle.std.specs.Prelude.{◌≡◌, ◌+◌, ◌≤◌, ◌||◌, true, not, codes, length, Some, IfOk, IfErr};
+ghost use Rattle.std.specs.Prelude.{◌≡◌, ◌+◌, ◌≤◌, ◌||◌, true, not, codes, length, None, Some, IfOk, IfErr};
 ghost use Rattle.std.specs.List.{find};
 ghost use Rattle.std.specs.Option.{is_some, option_copied, option_map};
 ghost use Rattle.usp_json.specs.Canon.{canon, canon_members};
@@ -12,13 +12,13 @@ ghost use Rattle.usp_claims.specs.Table.{IsClaimSet, claim, fits, is_audience, n
 ghost use Rattle.usp_claims.specs.declared.table.ClaimKind.TheVariants.{Number, Period, Text};
 ghost use Rattle.usp_claims.specs.Faults.{RefusesClaims, failure, fault_in, first_failing};
 
-use crate::changes::{change, length_with};
+use crate::changes::change;
 use crate::table::ROWS;
 use crate::values::{has_kind, in_range, is_audience, period_in, whole_in};
 use crate::{ClaimFault, ClaimName, MAX_CANONICAL, MAX_PAYLOAD, NoMemory, Row};
 use std::alloc::Global;
 use std::marker::Model;
-use usp_json::{Json, MAX_MEMBERS, Members, read_members, write_members};
+use usp_json::{Json, MAX_MEMBERS, Members, canonical_len, read_members, write_members};
 
 // Whether the row's claim is absent, or of its kind and in its range.
 fn fits(members: &Members, row: Row) -> bool
@@ -109,7 +109,6 @@ fn period_claim(members: &Members, name: ClaimName) -> Option<u64>
 #[derive(Drop)]
 pub struct Claims {
     members: Members,
-    text_len: usize,
 }
 
 impl Model for Claims {
@@ -128,8 +127,8 @@ impl Model for Claims {
 
     ghost view = { λ c. c.members };
 
-    ghost invariant = { λ c. IsClaimSet c.members × (c.text_len ≡ length (canon_members c.members))
-        × (c.text_len ≤ MAX_CANONICAL) × AreNamed c.members };
+    ghost invariant = { λ c. IsClaimSet c.members × (length (canon_members c.members) ≤ MAX_CANONICAL)
+        × AreNamed c.members };
 }
 
 // Whether the members are a claim set.
@@ -170,8 +169,7 @@ pub fn read_claims(alloc: Global, payload: &[u8]) -> Result<Claims, ClaimFault>
     ensures refused { IfErr result (λ fault. RefusesClaims fault payload.now) }
 {
     let members = members_in(alloc, payload)?;
-    let text_len = write_members(alloc, &members)?.len();
-    Ok(Claims { members, text_len })
+    Ok(Claims { members })
 }
 
 /// The canonical text of the claims: no white space, numbers as they were spelled, and in texts only
@@ -194,7 +192,8 @@ impl Claims {
     }
 
     /// These claims with that value for one of them: a claim that is there keeps its place, and another goes last.
-    /// Where there is no memory, the claims come back as they were, and the value is dropped.
+    /// A claim that goes last takes memory, and one that is there takes none. Where there is no memory, the claims come
+    /// back as they were, and the value is dropped.
     #[tactic(auto, using(crate::proofs::Lengths::grows, crate::proofs::Named::still_kept))]
     pub fn with(
         self,
@@ -210,18 +209,13 @@ impl Claims {
         ensures keeps { IfOk result (λ claims. KeepsLimits self → Keeps given given.levels value
             → length (entries claims) ≤ MAX_MEMBERS → KeepsLimits claims) }
         ensures unchanged { IfErr result (λ refused. refused.0 ≡ self) }
+        ensures memory { IfErr result (λ refused. claim (name_of name) self ≡ None) }
     {
-        let Claims { members, text_len } = self;
-        let Ok(longer) = length_with(alloc, &members, text_len, name, &value) else {
-            return Err((Claims { members, text_len }, NoMemory));
-        };
+        let Claims { members } = self;
         let mut members = members;
         match change(alloc, &mut members, name, value) {
-            Ok(()) => Ok(Claims {
-                members,
-                text_len: longer,
-            }),
-            Err(_) => Err((Claims { members, text_len }, NoMemory)),
+            Ok(()) => Ok(Claims { members }),
+            Err(_) => Err((Claims { members }, NoMemory)),
         }
     }
 
@@ -231,7 +225,6 @@ impl Claims {
     {
         Ok(Claims {
             members: self.members.copy(alloc)?,
-            text_len: self.text_len,
         })
     }
 
@@ -362,6 +355,6 @@ impl Claims {
         ensures named { AreNamed self.now }
         ensures set { IsClaimSet self.now }
     {
-        self.text_len
+        canonical_len(&self.members)
     }
 }

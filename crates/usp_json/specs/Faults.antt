@@ -44,7 +44,3 @@ RefusesJson (Duplicate at) text = StopsAt text at × IsDuplicate text at
 RefusesJson (Deep at) text = StopsAt text at × IsTooDeep text at
 RefusesJson (Many at) text = StopsAt text at × IsTooMany text at
 RefusesJson NoMemory text = Unit {0}
-
--- the same, the text first
-abbrev pub Refuses : List ℕ → JsonFault → Type 0
-Refuses text fault = RefusesJson fault text

@@ -1,7 +1,7 @@
 -- What a header's parameters say.
 use Rattle.std.proofs.Common.{◌≡◌, ◌≢◌, ℕ, Bool, true, false, List, Option, Some, None, refl, sym, ◌∙◌, ap, subst, codes, if◌then◌else◌}
 use Rattle.base64.specs.GeneralPurpose.{IsBytes}
-use Rattle.usp_json.specs.Faults.{Refuses}
+use Rattle.usp_json.specs.Faults.{RefusesJson}
 use Rattle.usp_json.specs.Spells.{given, IsReading}
 use Rattle.usp_json.proofs.FaultLaws.{reads_once}
 use Rattle.usp_json.specs.declared.value.Members.{Members}
@@ -16,7 +16,7 @@ use Rattle.usp_jws.specs.declared.header.HeaderFault.TheVariants.{Json as NoJson
 pub spelled : (text bytes : List ℕ) (m : Members) → IsBytes bytes → text ≡ b64u bytes → IsReading bytes m → SpellsHeader text m
 spelled text bytes m are is reads = record { bytes = bytes; are_bytes = are; encoded = is; reads = reads }
 
-pub no_object : (text bytes : List ℕ) (fault : JsonFault) → IsBytes bytes → text ≡ b64u bytes → Refuses bytes fault → RefusesHeader (json_fault fault) text
+pub no_object : (text bytes : List ℕ) (fault : JsonFault) → IsBytes bytes → text ≡ b64u bytes → RefusesJson fault bytes → RefusesHeader (json_fault fault) text
 no_object text bytes (Syntax at) are is r = (λ e. cc e, bytes, are, is, r)
 no_object text bytes (Duplicate at) are is r = (λ e. cc e, bytes, are, is, r)
 no_object text bytes (Deep at) are is r = (λ e. cc e, bytes, are, is, r)
@@ -66,14 +66,14 @@ same_members text m k s t =
     let r : IsReading s.bytes k = subst (λ (bytes : List ℕ). IsReading bytes k) e t.reads in
     reads_once given s.bytes m k s.reads r
 
-no_reading : (bytes : List ℕ) (m : Members) (fault : JsonFault) → Refuses bytes fault → fault ≢ NoJsonMemory → IsReading bytes m → ⊥
+no_reading : (bytes : List ℕ) (m : Members) (fault : JsonFault) → RefusesJson fault bytes → fault ≢ NoJsonMemory → IsReading bytes m → ⊥
 no_reading bytes m (Syntax at) r n reads = r.0.no_reading m reads
 no_reading bytes m (Duplicate at) r n reads = r.0.no_reading m reads
 no_reading bytes m (Deep at) r n reads = r.0.no_reading m reads
 no_reading bytes m (Many at) r n reads = r.0.no_reading m reads
 no_reading bytes m NoJsonMemory r n reads = n refl
 
-no_members : (text bytes : List ℕ) (m : Members) (fault : JsonFault) → fault ≢ NoJsonMemory → IsBytes bytes → text ≡ b64u bytes → Refuses bytes fault → SpellsHeader text m → ⊥
+no_members : (text bytes : List ℕ) (m : Members) (fault : JsonFault) → fault ≢ NoJsonMemory → IsBytes bytes → text ≡ b64u bytes → RefusesJson fault bytes → SpellsHeader text m → ⊥
 no_members text bytes m fault n are is r s =
     let e : s.bytes ≡ bytes = b64u_once s.bytes bytes s.are_bytes are (sym s.encoded ∙ is) in
     no_reading bytes m fault r n (subst (λ (l : List ℕ). IsReading l m) e s.reads)

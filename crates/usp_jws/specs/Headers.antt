@@ -4,7 +4,7 @@ use Rattle.std.specs.Option.{is_some, option_map_or, option_and_then}
 use Rattle.std.specs.Str.{bytes_eq}
 use Rattle.base64.specs.GeneralPurpose.{IsBytes}
 use Rattle.usp_json.specs.Entries.{entries, value_of}
-use Rattle.usp_json.specs.Faults.{Refuses}
+use Rattle.usp_json.specs.Faults.{RefusesJson}
 use Rattle.usp_json.specs.Spells.{IsReading}
 use Rattle.usp_json.specs.Scalars.{text_in}
 use Rattle.usp_json.specs.declared.value.Json.{Json}
@@ -65,7 +65,7 @@ IsHeader text kid =
 -- the text is the base64url of bytes that are no JSON object, for that reason
 abbrev pub HasNoObject : JsonFault → List ℕ → Type 0
 HasNoObject fault text =
-    (fault ≢ NoJsonMemory) × (bytes : List ℕ) × IsBytes bytes × (text ≡ b64u bytes) × Refuses bytes fault
+    (fault ≢ NoJsonMemory) × (bytes : List ℕ) × IsBytes bytes × (text ≡ b64u bytes) × RefusesJson fault bytes
 
 abbrev pub HasHeaderFault : HeaderFault → List ℕ → Type 0
 HasHeaderFault fault text =
