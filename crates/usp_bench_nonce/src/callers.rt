@@ -1,4 +1,4 @@
-// Who makes the calls.
+//! Who makes the calls.
 ghost use Rattle.std.specs.Prelude.{◌≡◌};
 
 use crate::plan::Plan;
@@ -79,9 +79,7 @@ impl<'a> Caller<'a> {
         let Ok(ask) = self.plan.ask(alloc, self.calls.from, self.before) else {
             return false;
         };
-        let turned = self
-            .nonces
-            .take(rt, &mut self.seat, ask.key, ask.now, ask.until);
+        let turned = self.nonces.take(rt, &mut self.seat, ask);
         self.taken = self
             .taken
             .saturating_add(u64::from(turned.answer == Answer::Taken));

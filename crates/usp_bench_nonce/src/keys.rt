@@ -1,4 +1,4 @@
-// The keys of nonces.
+//! The keys of nonces.
 
 use std::alloc::Global;
 use usp_nonce::{NoMemory, NonceKey, nonce_key};

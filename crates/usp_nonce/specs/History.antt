@@ -38,7 +38,8 @@ calls_in_force moment calls = filter (is_in_force moment) calls
 abbrev pub answer_to : ℕ → List Call → Nonce → ℕ → ℕ → Answer
 answer_to room before nonce until moment =
     if nat_le until moment then Late
-    else if list_any (λ call. is_same_nonce nonce call.nonce) (calls_in_force moment before) then Seen
+    else if list_any (λ call. is_same_nonce nonce call.nonce) (calls_in_force moment before)
+    then Seen
     else if nat_le room (length (calls_in_force moment before)) then Full
     else Taken
 
@@ -49,4 +50,5 @@ pub record IsNext (room : ℕ) (before : List Call) (call : Call) : Type 0 where
 
 -- each call is answered as it must be after those before it
 pub record IsLegal (room : ℕ) (history : List Call) : Type 0 where
-  pub each : (before after : List Call) (call : Call) → history ≡ before ++ call ∷ after → IsNext room before call
+  pub each : (before after : List Call) (call : Call) → history ≡ before ++ call ∷ after
+      → IsNext room before call

@@ -7,7 +7,8 @@ use Rattle.usp_nonce.specs.declared.answer.Answer.TheVariants.{Taken}
 abbrev pub TakesNoNonceTwice : List Call → Type 0
 TakesNoNonceTwice history = (before between after : List Call) (first second : Call)
     → history ≡ before ++ first ∷ between ++ second ∷ after
-    → first.answer ≡ Taken → second.answer ≡ Taken → first.nonce ≡ second.nonce → first.until ≤ second.moment
+    → first.answer ≡ Taken → second.answer ≡ Taken → first.nonce ≡ second.nonce
+    → first.until ≤ second.moment
 
 -- the two calls ask the same
 pub record AsksSame (a b : Call) : Type 0 where

@@ -8,7 +8,13 @@ use Rattle.usp_nonce.specs.declared.answer.Turned.{Turned}
 -- the call that asked this and was answered so
 abbrev pub call_of : Nonce → ℕ → ℕ → Turned → Call
 call_of nonce now until turned =
-    record { nonce = nonce; now = now; until = until; moment = turned.moment; answer = turned.answer }
+    record {
+      nonce = nonce;
+      now = now;
+      until = until;
+      moment = turned.moment;
+      answer = turned.answer;
+    }
 
 abbrev pub holding_of : Call → Holding
 holding_of call = record { nonce = call.nonce; until = call.until }

@@ -13,7 +13,11 @@ use Rattle.usp_nonce.specs.declared.answer.Turned.{Turned}
 abbrev pub table_at : Table → ℕ → Table
 table_at table now =
     let moment = max table.moment now in
-    record table { calls = table.calls + 1; moment = moment; rows = filter (is_above moment) table.rows }
+    record table {
+      calls = table.calls + 1;
+      moment = moment;
+      rows = filter (is_above moment) table.rows;
+    }
 
 -- the answer of a table that has come to the moment of the call
 abbrev pub table_answer : Table → Nonce → ℕ → Answer
@@ -37,7 +41,8 @@ table_after table nonce until Full = table
 
 -- The table answered a call: the answer goes on with each history that the table stood for, and the table stands
 -- for what that makes.
-pub record IsAnswered (before : Table) (nonce : Nonce) (now until : ℕ) (turned : Turned) (after : Table) : Type 0 where
+pub record IsAnswered (before : Table) (nonce : Nonce) (now until : ℕ) (turned : Turned)
+    (after : Table) : Type 0 where
   pub next : (history : List Call) → StandsFor before history
       → IsNext before.room history (call_of nonce now until turned)
   pub legal : (history : List Call) → StandsFor before history → IsLegal before.room history

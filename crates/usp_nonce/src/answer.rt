@@ -1,4 +1,4 @@
-// What a call of a nonce table answers.
+//! What a call of a nonce table answers.
 
 /// What became of a nonce.
 #[derive(Clone, Copy, Debug, PartialEq, Eq)]

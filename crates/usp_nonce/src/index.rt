@@ -1,6 +1,7 @@
-// A hashed index over row numbers.
+//! A hashed index over row numbers.
 ghost use Rattle.std.specs.Prelude.{◌≡◌, ◌+◌, ◌-◌, ◌<◌, ◌≤◌, ◌^◌, ◌++◌, ◌∷◌, [], ℕ, Some, IfOk, slice_get, slice_index, length};
 ghost use Rattle.usp_nonce.specs.Index.{OnChain, bucket};
+ghost use Rattle.usp_nonce.specs.declared.limits.TheConstants.{MAX_ROWS};
 
 use std::alloc::{AllocError, Global};
 use std::marker::Model;
@@ -41,7 +42,7 @@ impl Index {
     /// An index for up to `room` rows, with twice as many heads.
     pub fn with_room(alloc: Global, room: u32) -> Result<Index, AllocError>
         requires some { 0 < room }
-        requires bounded { room ≤ 131072 }
+        requires bounded { room ≤ MAX_ROWS }
         ensures { IfOk result (λ index. (index.hashes ≡ []) × (index.room ≡ room)) }
     {
         let heads = vec![in alloc; 0u32; 2 * room as usize]?;
@@ -72,7 +73,8 @@ impl Index {
     /// Adds the next row, by its hash.
     pub fn push(&mut self, hash: u32)
         requires { length self.old.hashes < self.old.room }
-        ensures { (self.new.hashes ≡ self.old.hashes ++ hash ∷ []) × (self.new.room ≡ self.old.room) }
+        ensures { (self.new.hashes ≡ self.old.hashes ++ hash ∷ [])
+            × (self.new.room ≡ self.old.room) }
     {
         let head = hash as usize % self.heads.len();
         let before = self.heads[head];
@@ -84,7 +86,8 @@ impl Index {
     /// The number of the newest row that may have the hash: each row that has it is on the chain from there.
     pub fn first(&self, hash: u32) -> u32
         ensures within { result ≤ length self.now.hashes }
-        ensures listed { (r : ℕ) → slice_get self.now.hashes r ≡ Some hash → OnChain self.now.next result r }
+        ensures listed { (r : ℕ) → slice_get self.now.hashes r ≡ Some hash
+            → OnChain self.now.next result r }
     {
         self.heads[hash as usize % self.heads.len()]
     }

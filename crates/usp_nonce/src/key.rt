@@ -1,4 +1,4 @@
-// The key of a nonce.
+//! The key of a nonce.
 ghost use Rattle.std.specs.Prelude.{◌≡◌, IfOk};
 ghost use Rattle.usp_nonce.specs.Hash.{hash_of};
 
@@ -46,7 +46,8 @@ impl Model for NonceKey {
 
     ghost view = { λ key. record { jti = key.jti.items; uri = key.uri.items } };
 
-    ghost invariant = { λ key. key.hash ≡ hash_of record { jti = key.jti.items; uri = key.uri.items } };
+    ghost invariant = { λ key.
+        key.hash ≡ hash_of record { jti = key.jti.items; uri = key.uri.items } };
 }
 
 /// The nonce of this `jti` (RFC 9246, section 2.1.7) and this content URI.

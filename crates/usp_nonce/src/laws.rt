@@ -1,4 +1,4 @@
-// What is true of each legal history of a nonce table.
+//! What is true of each legal history of a nonce table.
 ghost use Rattle.std.specs.Prelude.{◌≡◌, ℕ, List, [], ◌∷◌, ◌++◌};
 ghost use Rattle.usp_nonce.specs.History.{Call, IsLegal, IsNext};
 ghost use Rattle.usp_nonce.specs.Laws.{AsksSame, TakesNoNonceTwice};
@@ -15,7 +15,8 @@ pub fn has_one_legal_history()
         → IsLegal room history → IsNext room history call → IsLegal room (history ++ call ∷ []) }
     ensures last { (room : ℕ) (history : List Call) (call : Call)
         → IsLegal room (history ++ call ∷ []) → IsNext room history call }
-    ensures front { (room : ℕ) (history rest : List Call) → IsLegal room (history ++ rest) → IsLegal room history }
+    ensures front { (room : ℕ) (history rest : List Call)
+        → IsLegal room (history ++ rest) → IsLegal room history }
     ensures one { (room : ℕ) (history : List Call) (a b : Call)
         → IsNext room history a → IsNext room history b → AsksSame a b → a ≡ b }
 {}

@@ -1,4 +1,4 @@
-// The nonce table of one thread.
+//! The nonce table of one thread.
 ghost use Rattle.std.specs.Prelude.{◌≡◌, ◌<◌, ◌≤◌, ◌+◌, List, [], ◌∷◌, ◌++◌, IfOk, length, if◌then◌else◌, Some, None, ◌-◌, ◌&&◌, slice_get};
 ghost use Rattle.std.specs.List.{list_any};
 ghost use Rattle.usp_nonce.specs.History.{Call, IsLegal, IsNext, is_taken};
@@ -90,7 +90,8 @@ impl NonceTable {
         // The answer is the one that goes on with each history that the table stands for.
         ensures next { (history : List Call) → StandsFor self.old history
             → IsNext self.old.room history (call_of key now until result) }
-        ensures legal { (history : List Call) → StandsFor self.old history → IsLegal self.old.room history
+        ensures legal { (history : List Call) → StandsFor self.old history
+            → IsLegal self.old.room history
             → IsLegal self.old.room (history ++ call_of key now until result ∷ []) }
         ensures stands { (history : List Call) → StandsFor self.old history
             → StandsFor self.new (history ++ call_of key now until result ∷ []) }
@@ -134,7 +135,7 @@ impl NonceTable {
         self.moment
     }
 
-    /// Counts a call, moves on to its moment, and takes out the ends up to it.
+    // Counts a call, moves on to its moment, and takes out the ends up to it.
     fn advance(&mut self, now: u64)
         requires { self.old.calls < MAX_CALLS }
         ensures { self.new ≡ table_at self.old now }
@@ -146,7 +147,7 @@ impl NonceTable {
         }
     }
 
-    /// Answers a call at the table's moment, and holds the nonce where it is taken.
+    // Answers a call at the table's moment, and holds the nonce where it is taken.
     fn admit(&mut self, key: NonceKey, until: u64) -> (Answer, Option<NonceKey>)
         ensures answer { result.0 ≡ table_answer self.old key until }
         ensures held { self.new ≡ table_after self.old key until result.0 }
@@ -161,7 +162,7 @@ impl NonceTable {
         }
     }
 
-    /// The answer to a call at the table's moment.
+    // The answer to a call at the table's moment.
     fn answer_to(&self, key: &NonceKey, until: u64) -> Answer
         ensures { result ≡ table_answer self.now key.now until }
     {
@@ -189,7 +190,7 @@ impl NonceTable {
         false
     }
 
-    /// Holds the nonce until then.
+    // Holds the nonce until then.
     fn hold(&mut self, key: NonceKey, until: u64)
         requires room { length self.old.rows < self.old.room }
         requires later { self.old.moment < until }
@@ -209,8 +210,8 @@ impl NonceTable {
     }
 }
 
-/// Whether the row of a number is of the nonce, and is held beyond the moment. A row of another hash is not
-/// looked at.
+// Whether the row of a number is of the nonce, and is held beyond the moment. A row of another hash is not
+// looked at.
 fn is_held_at(rows: &[Row], index: &Index, number: u32, key: &NonceKey, moment: u64) -> bool
     requires some { 0 < number }
     requires within { number ≤ length rows.now }

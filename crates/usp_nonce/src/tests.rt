@@ -1,4 +1,4 @@
-// Calls of a nonce table, with their answers worked out by hand.
+//! Calls of a nonce table, with their answers worked out by hand.
 use crate::hash::hash_parts;
 use crate::{Answer, MAX_ROOM, NoMemory, NonceTable, Turned, nonce_key};
 use std::alloc::Global;
@@ -7,7 +7,7 @@ use std::test::Fail;
 
 const URI: &[u8] = b"http://h/v";
 
-/// Takes a nonce of a table that has met few calls.
+// Takes a nonce of a table that has met few calls.
 fn ask(
     rt: &impl Abort,
     alloc: Global,
@@ -159,7 +159,7 @@ fn gives_back_each_key_that_it_does_not_keep(rt: HostRuntime) -> Result<(), Fail
     Ok(())
 }
 
-/// One call of a random history.
+// One call of a random history.
 #[derive(Clone, Copy)]
 struct Asked {
     nonce: u32,
@@ -167,7 +167,7 @@ struct Asked {
     until: u32,
 }
 
-/// Random calls, the same in each run: for few nonces, with a clock that is set back at times.
+// Random calls, the same in each run: for few nonces, with a clock that is set back at times.
 #[derive(Drop)]
 struct RandomCalls {
     state: u64,
@@ -175,7 +175,7 @@ struct RandomCalls {
 }
 
 impl RandomCalls {
-    /// A number below `bound`, or 0 where that is 0.
+    // A number below `bound`, or 0 where that is 0.
     fn below(&mut self, bound: u32) -> u32 {
         self.state = self
             .state
@@ -196,7 +196,7 @@ impl RandomCalls {
     }
 }
 
-/// A nonce table without an index: the calls that took their nonce, from which nothing is dropped.
+// A nonce table without an index: the calls that took their nonce, from which nothing is dropped.
 #[derive(Drop)]
 struct Plain {
     room: u32,
@@ -233,8 +233,8 @@ impl Plain {
     }
 }
 
-/// Follows a history of up to 100 calls, half of them for nonces that have one hash two by two. Answers how many
-/// nonces were taken.
+// Follows a history of up to 100 calls, half of them for nonces that have one hash two by two. Answers how many
+// nonces were taken.
 fn follow_a_history(rt: &impl Abort, alloc: Global, seed: u32) -> Result<usize, Fail> {
     let fronts = [b"m0oe1l", b"5aum35"];
     let room = seed % 12 + 1;

@@ -4,6 +4,7 @@ use Rattle.std.specs.Prelude.{MatchBool}
 use Rattle.std.specs.List.{list_all}
 use Rattle.std.proofs.lemmas.Bool.{cases_lt}
 use Rattle.std.proofs.lemmas.List.{append_cancel_left}
+use Rattle.usp_uri.proofs.ComponentLaws.{both}
 use Rattle.usp_uri.specs.Letters.{is_sub_delim, is_gen_delim, is_reserved}
 use Rattle.usp_uri.specs.Delimited.{until, from_first}
 use Rattle.usp_package.specs.Package.{is_place, IsFirstPlace, is_run_byte, ends_run, IsPastRun, CutsAt, IsSplit, Finds, Package, nothing, bad, carried, package_of}
@@ -35,10 +36,6 @@ fronts (c ∷ f) (d ∷ g) x y e l =
     let h = heads c d (f ++ x) (g ++ y) e in
     let more = fronts f g x y h.1 (omega arith) in
     (ap (λ n. n ∷ f) h.0 ∙ ap (λ (t : List ℕ). d ∷ t) more.0, more.1)
-
-both : (a b : Bool) → (a && b) ≡ true → (a ≡ true) × (b ≡ true)
-both true b e = (refl, e)
-both false b e = absurd cc
 
 -- a run before a text that does not go on with it
 run_of : (token rest : List ℕ) → list_all is_run_byte token ≡ true → IsPastRun rest → (until ends_run (token ++ rest) ≡ token) × (from_first ends_run (token ++ rest) ≡ rest)

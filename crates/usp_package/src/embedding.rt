@@ -14,7 +14,7 @@ use std::error::Error;
 use std::fmt;
 use usp_uri::Uri;
 
-/// Memory ran out.
+/// There is no memory left.
 #[derive(Clone, Copy, Debug, PartialEq, Eq)]
 pub struct NoMemory;
 
@@ -26,7 +26,7 @@ impl From<AllocError> for NoMemory {
 
 impl fmt::Display for NoMemory {
     fn fmt<W: fmt::Write>(&self, f: &mut fmt::Formatter<W>) -> fmt::Result {
-        write!(f, "memory ran out")
+        write!(f, "there is no memory left: give the program more")
     }
 }
 
@@ -42,7 +42,7 @@ pub fn joined(alloc: Global, before: &[u8], after: &[u8]) -> Result<Vec<u8>, NoM
     Ok(text)
 }
 
-/// A text with a package at its end, behind '&' where it has a query, and behind '?' else.
+// A text with a package at its end, behind '&' where it has a query, and behind '?' else.
 fn with_package(
     alloc: Global,
     name: &[u8],
@@ -50,7 +50,8 @@ fn with_package(
     query: Option<&[u8]>,
     token: &[u8],
 ) -> Result<Vec<u8>, AllocError>
-    ensures { IfOk result (λ text. text.items ≡ embedded name.now uri.now (option_copied query.entry) token.now) }
+    ensures { IfOk result (λ text.
+        text.items ≡ embedded name.now uri.now (option_copied query.entry) token.now) }
 {
     let joint = if query.is_some() { b'&' } else { b'?' };
     let mut text = Vec::new(alloc);
@@ -68,12 +69,16 @@ pub fn embed(alloc: Global, name: &AttrName, uri: &Uri, token: &[u8]) -> Result<
     requires some { 0 < length token.now }
     requires run { list_all is_run_byte token.now ≡ true }
     requires none { package_of name.now uri.now ≡ nothing }
-    ensures text { IfOk result (λ text. text.items ≡ embedded name.now uri.now (query_in uri.now) token.now) }
-    ensures length { IfOk result (λ text. length text.items ≡ length uri.now + length name.now + length token.now + 2) }
+    ensures text { IfOk result (λ text.
+        text.items ≡ embedded name.now uri.now (query_in uri.now) token.now) }
+    ensures length { IfOk result (λ text.
+        length text.items ≡ length uri.now + length name.now + length token.now + 2) }
     // Found again it is this token, with the whole URI before it and nothing after.
-    ensures back { IfOk result (λ text. package_of name.now text.items ≡ carried token.now uri.now []) }
+    ensures back { IfOk result (λ text.
+        package_of name.now text.items ≡ carried token.now uri.now []) }
     // A URI in normal form again, where it is short enough to be read.
-    ensures normal { IfOk result (λ text. length text.items ≤ MAX_LEN → normal_of text.items ≡ Ok text.items) }
+    ensures normal { IfOk result (λ text.
+        length text.items ≤ MAX_LEN → normal_of text.items ≡ Ok text.items) }
 {
     let text = with_package(alloc, name.text(), uri.text(), uri.query(), token)?;
     Ok(text)

@@ -25,7 +25,7 @@ pub enum Found<'a> {
     },
 }
 
-/// The package of that name at this place of a text.
+// The package of that name at this place of a text.
 fn found_at<'a>(name: &[u8], uri: &'a [u8], at: usize) -> Found<'a>
     requires { at + length name.now + 2 ≤ length uri.now }
     ensures { shown result ≡ package_at name.now uri.now at }
@@ -57,7 +57,7 @@ fn found_at<'a>(name: &[u8], uri: &'a [u8], at: usize) -> Found<'a>
     }
 }
 
-/// The first package of that name, by the definition that computes.
+// The first package of that name, by the definition that computes.
 #[tactic(auto, unfolding(crate::specs::Package::package_of))]
 fn find_package<'a>(name: &AttrName, uri: &'a [u8]) -> Found<'a>
     ensures { shown result ≡ package_of name.now uri.now }

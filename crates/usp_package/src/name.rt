@@ -25,14 +25,14 @@ impl Model for AttrName {
     ghost invariant = { λ a. (a.len ≤ MAX_NAME) × (is_attr_name (take a.len a.bytes) ≡ true) };
 }
 
-/// A letter, a digit, `-` or `_`.
+// A letter, a digit, `-` or `_`.
 fn is_name_byte(c: u8) -> bool
     ensures { result ≡ is_name_byte c }
 {
     c.is_ascii_alphanumeric() || matches!(c, b'-' | b'_')
 }
 
-/// Whether the text is such a name.
+// Whether the text is such a name.
 fn is_attr_name(text: &[u8]) -> bool
     ensures { result ≡ is_attr_name text.now }
 {

@@ -15,7 +15,7 @@ pub struct Bounds {
     pub tail: usize,
 }
 
-/// The offset behind the first "://".
+// The offset behind the first "://".
 fn authority_start(uri: &[u8]) -> Option<usize>
     ensures value { result ≡ authority_start uri.now }
     ensures within { IfSome result (λ start. start ≤ length uri.now) }
@@ -51,7 +51,7 @@ pub fn bounds_of(uri: &[u8]) -> Option<Bounds>
     })
 }
 
-/// Whether a package may begin after this byte.
+// Whether a package may begin after this byte.
 fn separates(bounds: &Bounds, at: usize, c: u8) -> bool
     ensures { result ≡ separates (zones bounds.now) at c }
 {
@@ -63,7 +63,7 @@ fn separates(bounds: &Bounds, at: usize, c: u8) -> bool
     }
 }
 
-/// Whether the text begins with the name and '='.
+// Whether the text begins with the name and '='.
 fn begins_with_name(name: &[u8], text: &[u8]) -> bool
     ensures value { result ≡ is_named name.now text.now }
     ensures room { IsTrue result → length name.now + 1 ≤ length text.now }
@@ -92,7 +92,7 @@ pub fn first_place(name: &[u8], bounds: &Bounds, uri: &[u8]) -> Option<usize>
     None
 }
 
-/// The offset of the first byte that ends a run.
+// The offset of the first byte that ends a run.
 fn find_run_end(text: &[u8]) -> Option<usize>
     ensures { result ≡ position ends_run text.now }
 {

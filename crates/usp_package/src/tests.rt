@@ -1,3 +1,4 @@
+//! Packages that are found and put in, with what is left worked out by hand.
 use super::*;
 use std::alloc::Global;
 use std::test::*;

@@ -1,11 +1,12 @@
 -- The table as it is made, and as it is closed.
-use Rattle.std.proofs.Common.{◌≡◌, ℕ, zero, suc, ◌+◌, ◌<◌, ◌≤◌, ◌^◌, Bool, true, false, List, [], ◌∷◌, length, set, refl, sym, ap, subst, arith}
+use Rattle.std.proofs.Common.{◌≡◌, ℕ, zero, suc, ◌+◌, ◌<◌, ◌≤◌, Bool, true, false, List, [], ◌∷◌, length, set, refl, sym, ap, subst, arith}
 use Rattle.std.specs.Prelude.{Some}
 use mathlib.Core.Option.{some, some-injective, some-ne-none}
 use lib.ListN.{get_elem?}
 use Rattle.atomic_table.specs.Table.{Seen}
 use Rattle.usp_nonce.specs.History.{Call, IsLegal}
 use Rattle.usp_nonce.specs.Table.{Table}
+use Rattle.usp_nonce.specs.declared.limits.TheConstants.{MAX_CALLS}
 use Rattle.usp_shared.specs.Places.{times, AreAllBelow}
 use Rattle.usp_shared.specs.Rule.{Kept, Knows, Has, rank, open_at, times_of, placed_of, left_of, open_of, total_of, spent, first_view}
 use Rattle.usp_shared.specs.declared.rule.Stage.{Stage}
@@ -23,7 +24,7 @@ at_only v u zero e = some-injective v u e
 at_only v u (suc by) e = absurd (some-ne-none u (sym e))
 
 -- the table as it is made
-pub opens : (terms : Terms) (table : Table) → terms.share < 2 ^ 62 → Has terms.table.room table [] → Kept terms record { words = 0 ∷ 0 ∷ 0 ∷ []; homes = some (Some table) ∷ []; views = first_view terms Idle ∷ [] }
+pub opens : (terms : Terms) (table : Table) → terms.share < MAX_CALLS → Has terms.table.room table [] → Kept terms record { words = 0 ∷ 0 ∷ 0 ∷ []; homes = some (Some table) ∷ []; views = first_view terms Idle ∷ [] }
 opens terms table small has = record {
   log = [];
   next = 0;

@@ -1,10 +1,11 @@
 -- The first seat puts the nonce table into the slot, and the rule that holds from then on.
-use Rattle.std.proofs.Common.{◌≡◌, ℕ, zero, suc, ◌<◌, ◌≤◌, ◌^◌, ⊎_elim, inl, inr, List, [], ◌∷◌, set, refl, sym, ap, ◌∙◌, subst, arith}
+use Rattle.std.proofs.Common.{◌≡◌, ℕ, zero, suc, ◌<◌, ◌≤◌, ⊎_elim, inl, inr, List, [], ◌∷◌, set, refl, sym, ap, ◌∙◌, subst, arith}
 use Rattle.std.specs.Prelude.{Option, Some, None, slice_index}
 use mathlib.Core.Option.{some, none, some-injective, some-ne-none}
 use lib.ListN.{get_elem?}
 use Rattle.atomic_table.specs.Table.{Step, takes, gives, Allows, Splits, Joins, Seen, opening}
 use Rattle.usp_nonce.specs.Table.{Table}
+use Rattle.usp_nonce.specs.declared.limits.TheConstants.{MAX_CALLS}
 use Rattle.usp_shared.specs.Rule.{Holds, Kept, Has, IsUnfilled, Sat, rank, first_view, newcomer, emptied, passed}
 use Rattle.usp_shared.specs.declared.rule.Stage.{Stage}
 use Rattle.usp_shared.specs.declared.rule.Stage.TheVariants.{Idle, Opens, Fills}
@@ -14,7 +15,7 @@ use Rattle.usp_shared.proofs.Ends.{at_only, opens}
 use Rattle.usp_shared.proofs.Keeps.{Board, Hand, Homes}
 
 -- the table as it is made
-pub starts : (terms : Terms) → terms.share < 2 ^ 62 → Holds terms (opening (0 ∷ 0 ∷ 0 ∷ []) (None ∷ []) (newcomer terms))
+pub starts : (terms : Terms) → terms.share < MAX_CALLS → Holds terms (opening (0 ∷ 0 ∷ 0 ∷ []) (None ∷ []) (newcomer terms))
 starts terms small = inr (inl (record { words = refl; homes = refl; views = refl; small = small }))
 
 -- the one seat of an unfilled table

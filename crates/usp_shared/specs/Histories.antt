@@ -4,7 +4,8 @@ use Rattle.usp_nonce.specs.History.{Call}
 
 -- The call is entered at the place: the history after it begins with all that was seen before, goes on with what
 -- others called meanwhile, and ends with the call.
-pub record IsEntered (before : List Call) (call : Call) (place : ℕ) (after : List Call) : Type 0 where
+pub record IsEntered (before : List Call) (call : Call) (place : ℕ) (after : List Call)
+    : Type 0 where
   pub between : List Call
   pub seen : after ≡ (before ++ between) ++ call ∷ []
   pub place_is : place ≡ length (before ++ between)

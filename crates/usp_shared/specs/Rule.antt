@@ -1,5 +1,5 @@
 -- The rule of the shared table, and what each step tells its seat.
-use Rattle.std.specs.Prelude.{◌≡◌, ℕ, ◌+◌, ◌-◌, ◌<◌, ◌≤◌, ◌^◌, ◌==◌, Bool, true, false, List, [], ◌∷◌, ◌++◌, length, Option, Some, None, MatchBool, ◌⊎◌}
+use Rattle.std.specs.Prelude.{◌≡◌, ℕ, ◌+◌, ◌-◌, ◌<◌, ◌≤◌, ◌==◌, Bool, true, false, List, [], ◌∷◌, ◌++◌, length, Option, Some, None, MatchBool, ◌⊎◌}
 use mathlib.Core.Option.{some, none}
 use mathlib.Core.List.{IsPrefix}
 use lib.ListN.{get_elem?}
@@ -8,6 +8,7 @@ use Rattle.atomic_table.specs.Table.{State, Me, Step, rest}
 use Rattle.usp_nonce.specs.History.{Call, IsLegal}
 use Rattle.usp_nonce.specs.Stands.{StandsFor}
 use Rattle.usp_nonce.specs.Table.{Table}
+use Rattle.usp_nonce.specs.declared.limits.TheConstants.{MAX_CALLS}
 use Rattle.usp_shared.specs.Histories.{IsEntered, longer_of, shorter_of}
 use Rattle.usp_shared.specs.Places.{times, once_below, AreDistinctBelow}
 use Rattle.usp_shared.specs.declared.rule.Stage.{Stage}
@@ -17,7 +18,15 @@ use Rattle.usp_shared.specs.declared.rule.View.{View}
 
 -- the first seat has the whole share
 abbrev pub first_view : Terms → Stage → View
-first_view terms stage = record { seen = []; told = []; places = []; left = terms.share; ticket = 0; stage = stage }
+first_view terms stage =
+    record {
+      seen = [];
+      told = [];
+      places = [];
+      left = terms.share;
+      ticket = 0;
+      stage = stage;
+    }
 
 abbrev pub newcomer : Terms → View
 newcomer terms = first_view terms Opens
@@ -47,13 +56,15 @@ pub record Has (room : ℕ) (table : Table) (log : List Call) : Type 0 where
 
 -- What the seat `by` knows. A ticket has one owner. Who has the turn holds the ticket served, has seen the whole
 -- history, and has the nonce table in hand.
-pub record Knows (log : List Call) (next serving : ℕ) (owner : ℕ → ℕ) (busy : Bool) (by : ℕ) (v : View) : Type 0 where
+pub record Knows (log : List Call) (next serving : ℕ) (owner : ℕ → ℕ) (busy : Bool) (by : ℕ)
+    (v : View) : Type 0 where
   pub seen : IsPrefix v.seen log
   pub told : IsPrefix v.told log
   pub mine : AreDistinctBelow (length v.seen) v.places
   pub waits : 0 < rank v.stage → (serving ≤ v.ticket) × (v.ticket < next) × (owner v.ticket ≡ by)
   pub turn : 2 ≤ rank v.stage
-      → (v.ticket ≡ serving) × (v.seen ≡ log) × (length log + 2 ≡ serving + rank v.stage) × (busy ≡ true)
+      → (v.ticket ≡ serving) × (v.seen ≡ log) × (length log + 2 ≡ serving + rank v.stage)
+      × (busy ≡ true)
   pub done : rank v.stage ≡ 3 → 0 < length v.places
   pub opened : rank v.stage ≤ 3
 
@@ -87,35 +98,41 @@ pub record Kept (terms : Terms) (s : State (Option Table) View) : Type 0 where
   pub words : s.words ≡ length log ∷ next ∷ serving ∷ []
   pub legal : IsLegal terms.table.room log
   pub order : serving ≤ next
-  pub small : terms.share < 2 ^ 62
+  pub small : terms.share < MAX_CALLS
   pub shares : total_of left_of s.views + next ≡ terms.share
   pub placed : total_of placed_of s.views ≡ length log
   pub waits : total_of open_of s.views + length log ≡ next
   pub counted : (x : ℕ) → total_of (times_of x) s.views ≡ once_below (length log) x
-  pub knows : (by : ℕ) (v : View) → get_elem? s.views by ≡ some v → Knows log next serving owner busy by v
+  pub knows : (by : ℕ) (v : View) → get_elem? s.views by ≡ some v
+      → Knows log next serving owner busy by v
   pub home : busy ≡ false
-      → (table : Table) × (s.homes ≡ some (Some table) ∷ []) × Has terms.table.room table log × (length log ≡ serving)
+      → (table : Table) × (s.homes ≡ some (Some table) ∷ []) × Has terms.table.room table log
+      × (length log ≡ serving)
   pub out : busy ≡ true
-      → (s.homes ≡ none ∷ []) × ((u : View) × (get_elem? s.views (owner serving) ≡ some u) × (2 ≤ rank u.stage))
+      → (s.homes ≡ none ∷ [])
+      × ((u : View) × (get_elem? s.views (owner serving) ≡ some u) × (2 ≤ rank u.stage))
 
 -- The table before it has its nonce table: the slot is empty at home, or out with the first seat
-pub record IsUnfilled (terms : Terms) (stage : Stage) (home : mathlib.Core.Option.Option (Option Table))
+pub record IsUnfilled (terms : Terms) (stage : Stage)
+    (home : mathlib.Core.Option.Option (Option Table))
     (s : State (Option Table) View) : Type 0 where
   pub words : s.words ≡ 0 ∷ 0 ∷ 0 ∷ []
   pub homes : s.homes ≡ home ∷ []
   pub views : s.views ≡ first_view terms stage ∷ []
-  pub small : terms.share < 2 ^ 62
+  pub small : terms.share < MAX_CALLS
 
 -- the rule, from the table's making on
 abbrev pub Holds : Terms → State (Option Table) View → Type 0
-Holds terms s = Kept terms s ⊎ (IsUnfilled terms Opens (some None) s ⊎ IsUnfilled terms Fills none s)
+Holds terms s =
+    Kept terms s ⊎ (IsUnfilled terms Opens (some None) s ⊎ IsUnfilled terms Fills none s)
 
 -- the view that keeps all but n of what is left, and the view that has n
 abbrev pub kept_part : ℕ → View → View
 kept_part n v = record v { left = v.left - n }
 
 abbrev pub given_part : ℕ → View → View
-given_part n v = record { seen = v.seen; told = []; places = []; left = n; ticket = 0; stage = Idle }
+given_part n v =
+    record { seen = v.seen; told = []; places = []; left = n; ticket = 0; stage = Idle }
 
 abbrev pub joined : View → View → View
 joined v w =
@@ -151,7 +168,7 @@ pub record TakesTurn (room : ℕ) (m m' : Sat) : Type 0 where
   pub legal : IsLegal room m'.0.seen
   pub view : m'.0 ≡ record m.0 { seen = m'.0.seen; stage = HasTurn }
   pub more : IsPrefix m.0.seen m'.0.seen
-  pub small : length m'.0.seen < 2 ^ 62
+  pub small : length m'.0.seen < MAX_CALLS
 
 abbrev pub looked : ℕ → Step (Option Table) → Sat → ℕ → Sat → Type 0
 looked room st m n m' = MatchBool (n == m.0.ticket) (TakesTurn room m m') (m' ≡ m)
@@ -160,7 +177,14 @@ looked room st m n m' = MatchBool (n == m.0.ticket) (TakesTurn room m m') (m' �
 abbrev pub committed : Call → Step (Option Table) → Sat → ℕ → Sat → Type 0
 committed call st m n m' =
     (n ≡ length m.0.seen)
-    × (m' ≡ (record m.0 { seen = m.0.seen ++ call ∷ []; places = m.0.places ++ n ∷ []; stage = IsDone }, m.1))
+    × (m' ≡ (
+      record m.0 {
+        seen = m.0.seen ++ call ∷ [];
+        places = m.0.places ++ n ∷ [];
+        stage = IsDone;
+      },
+      m.1,
+    ))
 
 -- the seat has no ticket and nothing in hand
 abbrev pub passed : Step (Option Table) → Sat → ℕ → Sat → Type 0
@@ -170,7 +194,7 @@ passed st m n m' = m' ≡ (record m.0 { stage = Idle }, rest m.1)
 pub record IsCompared (m m' : Sat) : Type 0 where
   pub told : IsPrefix m.0.told m.0.seen
   pub mine : AreDistinctBelow (length m.0.seen) m.0.places
-  pub small : m.0.left + length m.0.places < 2 ^ 62
+  pub small : m.0.left + length m.0.places < MAX_CALLS
   pub same : m' ≡ m
 
 abbrev pub compared : Step (Option Table) → Sat → ℕ → Sat → Type 0

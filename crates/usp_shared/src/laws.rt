@@ -1,4 +1,4 @@
-// What is true of the calls of seats.
+//! What is true of the calls of seats.
 ghost use Rattle.std.specs.Prelude.{◌≡◌, ℕ, List, [], ◌∷◌, ◌++◌, Some, slice_get};
 ghost use mathlib.Core.List.{IsPrefix};
 ghost use Rattle.usp_nonce.specs.History.{Call};
@@ -11,7 +11,8 @@ pub fn keeps_each_call_at_its_place()
     ensures more { (before after : List Call) (call : Call) (place : ℕ)
         → IsEntered before call place after → IsPrefix before after }
     ensures later { (history longer : List Call) (call : Call) (place : ℕ)
-        → slice_get history place ≡ Some call → IsPrefix history longer → slice_get longer place ≡ Some call }
+        → slice_get history place ≡ Some call → IsPrefix history longer
+        → slice_get longer place ≡ Some call }
     // What was answered before a `take` stays at its place behind it, with the call that it made.
     ensures taken { (before after : List Call) (answered : List Placed) (call : Call) (place : ℕ)
         → IsEntered before call place after → AreAt before answered

@@ -15,3 +15,4 @@ mod waiting;
 pub use laws::keeps_each_call_at_its_place;
 pub use seat::Seat;
 pub use shared::{NoMemory, SharedNonces};
+pub use turn::NonceAsk;

@@ -1,4 +1,4 @@
-// What each step tells its seat.
+//! What each step tells its seat.
 ghost use Rattle.std.specs.Prelude.{ℕ, []};
 ghost use Rattle.usp_nonce.specs.History.{Call};
 ghost use Rattle.usp_nonce.specs.Nonces.{Nonce};
@@ -45,7 +45,13 @@ pub trait Entered {
 }
 
 impl Entered for Brand {
-    ghost call = { record { nonce = record { jti = []; uri = [] }; now = 0; until = 0; moment = 0; answer = Late } };
+    ghost call = { record {
+      nonce = record { jti = []; uri = [] };
+      now = 0;
+      until = 0;
+      moment = 0;
+      answer = Late;
+    } };
 }
 
 /// The share that is given away. Each split picks it.

@@ -1,5 +1,5 @@
-// The rule of the table that threads share. Word 0 counts the calls, word 1 gives tickets, word 2 is the ticket
-// served. The slot holds the nonce table, or nothing while a turn has it in hand.
+//! The rule of the table that threads share. Word 0 counts the calls, word 1 gives tickets, word 2 is the ticket
+//! served. The slot holds the nonce table, or nothing while a turn has it in hand.
 
 use atomic_table::{Seat, Shared, Table, TableRule};
 use std::alloc::Global;
@@ -50,7 +50,7 @@ pub enum Stage {
 pub struct View {
     /// The history, as far as the seat has seen it.
     pub seen: LinkedList<Entry>,
-    /// What the shorter sighted of two joined seats had seen, until the two are compared.
+    /// What the shorter sighted of the two seats that were last made this one had seen. The next join replaces it.
     pub told: LinkedList<Entry>,
     /// Where the seat's calls stand in the history.
     pub places: LinkedList<u64>,

@@ -1,4 +1,4 @@
-// A seat of a shared table.
+//! A seat of a shared table.
 ghost use Rattle.std.specs.Prelude.{◌≡◌, ◌+◌, length};
 ghost use Rattle.usp_shared.specs.Places.{AreDistinctBelow};
 
@@ -15,7 +15,8 @@ pub struct Seat {
 }
 
 impl Model for Seat {
-    ghost use Rattle.std.specs.Prelude.{◌≡◌, ◌+◌, ◌<◌, ◌^◌, length};
+    ghost use Rattle.std.specs.Prelude.{◌≡◌, ◌+◌, ◌<◌, length};
+    ghost use Rattle.usp_nonce.specs.declared.limits.TheConstants.{MAX_CALLS};
     ghost use Rattle.usp_shared.specs.Places.{AreDistinctBelow};
     ghost use Rattle.usp_shared.specs.Rule.{IsIdle};
     ghost use Rattle.usp_shared.specs.Seats.{Seated};
@@ -33,7 +34,7 @@ impl Model for Seat {
       idle : IsIdle seat.token.me;
       left : seat.left ≡ seat.token.me.0.left;
       used : seat.used ≡ length seat.token.me.0.places;
-      small : seat.left + seat.used < 2 ^ 62;
+      small : seat.left + seat.used < MAX_CALLS;
       apart : AreDistinctBelow (length seat.token.me.0.seen) seat.token.me.0.places;
     } };
 }

@@ -1,5 +1,5 @@
-// A nonce table that threads share.
-ghost use Rattle.std.specs.Prelude.{◌≡◌, ◌+◌, ◌-◌, ◌<◌, ◌≤◌, ◌^◌, List, [], ◌∷◌, ◌++◌, length, IfOk, IfErr, IsOk};
+//! A nonce table that threads share.
+ghost use Rattle.std.specs.Prelude.{◌≡◌, ◌+◌, ◌-◌, ◌<◌, ◌≤◌, List, [], ◌∷◌, ◌++◌, length, IfOk, IfErr, IsOk};
 ghost use mathlib.Core.List.{IsPrefix};
 ghost use Rattle.usp_nonce.specs.History.{IsLegal};
 ghost use Rattle.usp_nonce.specs.Stands.{StandsFor, call_of};
@@ -9,14 +9,14 @@ ghost use Rattle.usp_shared.specs.Places.{AreAllBelow, AreDistinctBelow};
 use crate::rule::Owned;
 use crate::seat::Seat;
 use crate::turn;
-use crate::turn::Ask;
+use crate::turn::NonceAsk;
 use std::alloc::Global;
 use std::error::Error;
 use std::fmt;
 use std::marker::{Brand, Model};
 use std::sync::Wait;
 use std::sync::atomic::AtomicU64;
-use usp_nonce::{MAX_CALLS, MAX_UNTIL, MOMENT_LIMIT, NonceKey, NonceTable, Turned};
+use usp_nonce::{MAX_CALLS, MAX_UNTIL, MOMENT_LIMIT, NonceTable, Turned};
 
 /// There is no memory left.
 #[derive(Clone, Copy, Debug, PartialEq, Eq)]
@@ -125,7 +125,8 @@ impl SharedNonces {
           left = seat.old.left + other.left;
         } }
         // Both have seen fronts of one history.
-        ensures one_history { IsPrefix seat.old.seen seat.new.seen × IsPrefix other.seen seat.new.seen }
+        ensures one_history { IsPrefix seat.old.seen seat.new.seen
+            × IsPrefix other.seen seat.new.seen }
         // No place was a place of both.
         ensures apart { AreDistinctBelow (length seat.new.seen) seat.new.places }
     {
@@ -135,21 +136,15 @@ impl SharedNonces {
         seat.used += used;
     }
 
-    /// Asks for the nonce at `now`, to be held until `until`, both in seconds since 1970. The call waits for the
-    /// seat's turn, and promises what it says if it returns. It takes no memory.
-    pub fn take<R: Wait>(
-        &self,
-        rt: &R,
-        seat: &mut Seat,
-        key: NonceKey,
-        now: u64,
-        until: u64,
-    ) -> Turned
+    /// Asks for a nonce. The call waits for the seat's turn, and promises what it says if it returns. It takes no
+    /// memory.
+    pub fn take<R: Wait>(&self, rt: &R, seat: &mut Seat, ask: NonceAsk) -> Turned
         requires table { seat.old.table ≡ self.now.table }
         requires left { 0 < seat.old.left }
-        requires moment { now < MOMENT_LIMIT }
-        requires held { until ≤ MAX_UNTIL }
-        ensures entered { IsEntered seat.old.seen (call_of key now until result) result.place seat.new.seen }
+        requires moment { ask.now < MOMENT_LIMIT }
+        requires held { ask.until ≤ MAX_UNTIL }
+        ensures entered { IsEntered seat.old.seen (call_of ask.key ask.now ask.until result)
+            result.place seat.new.seen }
         ensures legal { IsLegal self.now.room seat.new.seen }
         ensures places { seat.new.places ≡ seat.old.places ++ result.place ∷ [] }
         ensures apart { AreDistinctBelow (length seat.new.seen) seat.new.places }
@@ -161,7 +156,7 @@ impl SharedNonces {
             &self.table.shared,
             &self.asleep,
             &mut seat.token,
-            Ask { key, now, until },
+            ask,
         );
         seat.left -= 1;
         seat.used += 1;

@@ -1,7 +1,7 @@
-// Calls of a shared table, with their answers worked out by hand.
+//! Calls of a shared table, with their answers worked out by hand.
 ghost use Rattle.std.specs.Prelude.{◌≡◌, ◌≤◌, IfOk};
 
-use crate::{Seat, SharedNonces};
+use crate::{NonceAsk, Seat, SharedNonces};
 use std::alloc::Global;
 use std::process::Abort;
 use std::sync::Wait;
@@ -20,7 +20,7 @@ fn turned(place: u64, moment: u64, answer: Answer) -> Turned {
     }
 }
 
-/// A shared table of this room, with its first seat.
+// A shared table of this room, with its first seat.
 fn share(alloc: Global, room: u32, share: u32) -> Result<(SharedNonces, Seat), Fail>
     requires { (1 ≤ room) × (room ≤ 65536) }
     ensures { IfOk result (λ made. made.1.table ≡ made.0.table) }
@@ -29,7 +29,7 @@ fn share(alloc: Global, room: u32, share: u32) -> Result<(SharedNonces, Seat), F
     Ok(SharedNonces::new(alloc, table, u64::from(share))?)
 }
 
-/// Asks for the nonce of a `jti`.
+// Asks for the nonce of a `jti`.
 fn ask<R: Wait + Abort>(
     rt: &R,
     alloc: Global,
@@ -44,10 +44,15 @@ fn ask<R: Wait + Abort>(
 {
     let key = nonce_key(alloc, jti, URI).expect(rt, "memory for a nonce");
     assert!(rt; seat.left() > 0);
-    nonces.take(rt, seat, key, u64::from(now), u64::from(until))
+    let ask = NonceAsk {
+        key,
+        now: u64::from(now),
+        until: u64::from(until),
+    };
+    nonces.take(rt, seat, ask)
 }
 
-/// Asks so many times, and adds the places.
+// Asks so many times, and adds the places.
 fn ask_often<R: Wait + Abort>(
     rt: &R,
     alloc: Global,
@@ -65,7 +70,7 @@ fn ask_often<R: Wait + Abort>(
     }
 }
 
-/// Asks once, and hands the seat back.
+// Asks once, and hands the seat back.
 fn ask_once<R: Wait + Abort>(
     rt: &R,
     alloc: Global,
@@ -79,7 +84,7 @@ fn ask_once<R: Wait + Abort>(
     (turned, seat)
 }
 
-/// A seat beside its table, and the places of its calls.
+// A seat beside its table, and the places of its calls.
 #[derive(Drop)]
 struct Caller<'a> {
     nonces: &'a SharedNonces,
@@ -111,7 +116,7 @@ impl<'a> Caller<'a> {
     }
 }
 
-/// Closes the table with the seat that has the whole share, and answers how many calls it met.
+// Closes the table with the seat that has the whole share, and answers how many calls it met.
 fn close<R: Abort>(rt: &R, nonces: SharedNonces, seat: Seat) -> NonceTable
     requires { seat.table ≡ nonces.table }
 {
@@ -196,7 +201,7 @@ fn one_of_two_threads_takes_a_nonce(rt: HostRuntime) -> Result<(), Fail> {
     Ok(())
 }
 
-/// Each place below the number of calls was told once. Answers how many calls there were.
+// Each place below the number of calls was told once. Answers how many calls there were.
 fn each_place_was_told_once(
     rt: &impl Abort,
     alloc: Global,

@@ -1,5 +1,5 @@
-// The steps of a turn, each of which changes one word of the table and the view of one seat.
-ghost use Rattle.std.specs.Prelude.{◌≡◌, ◌+◌, ◌-◌, ◌<◌, ◌≤◌, ◌^◌, ◌==◌, [], ◌∷◌, ◌++◌, length, MatchBool, IfOk, IfErr, IfSome, Some, None};
+//! The steps of a turn, each of which changes one word of the table and the view of one seat.
+ghost use Rattle.std.specs.Prelude.{◌≡◌, ◌+◌, ◌-◌, ◌<◌, ◌≤◌, ◌==◌, [], ◌∷◌, ◌++◌, length, MatchBool, IfOk, IfErr, IfSome, Some, None};
 ghost use mathlib.Core.List.{IsPrefix};
 ghost use Rattle.usp_nonce.specs.History.{IsLegal};
 ghost use Rattle.usp_nonce.specs.Stands.{StandsFor, call_of};
@@ -20,35 +20,44 @@ use std::sync::Wait;
 use std::sync::atomic::AtomicU64;
 use usp_nonce::{MAX_CALLS, MAX_UNTIL, MOMENT_LIMIT, NonceKey, NonceTable, Turned};
 
-/// The word that counts the calls.
+// The word that counts the calls.
 const COUNT: usize = 0;
-/// The word that gives tickets.
+// The word that gives tickets.
 const TICKET: usize = 1;
-/// The word that has the ticket served.
+// The word that has the ticket served.
 pub(crate) const SERVING: usize = 2;
-/// The slot of the nonce table.
+// The slot of the nonce table.
 const HOME: usize = 0;
 
-/// What a seat asks of the nonce table in its turn.
-pub(crate) struct Ask {
-    pub(crate) key: NonceKey,
-    pub(crate) now: u64,
-    pub(crate) until: u64,
+/// What is asked of a shared nonce table: a nonce, to be held until a moment.
+#[derive(Drop)]
+pub struct NonceAsk {
+    pub key: NonceKey,
+    /// The moment of the call, in seconds since 1970.
+    pub now: u64,
+    /// The nonce may be taken again from this moment on, in seconds since 1970.
+    pub until: u64,
 }
 
-/// Draws a ticket.
+// Draws a ticket.
 fn draw(board: &Board, token: &mut Token) -> u64
     requires table { IsOf token.old.table_id board.now.table_id }
     requires idle { IsIdle token.old.me }
     requires left { 0 < token.old.me.0.left }
     ensures table { token.new.table_id ≡ token.old.table_id }
-    ensures ticket { token.new.me ≡
-        (record token.old.me.0 { left = token.old.me.0.left - 1; ticket = result; stage = Waits }, []) }
+    ensures ticket { token.new.me ≡ (
+      record token.old.me.0 {
+        left = token.old.me.0.left - 1;
+        ticket = result;
+        stage = Waits;
+      },
+      [],
+    ) }
 {
     board.fetch_add::<Draws>(token, TICKET, 1)
 }
 
-/// Looks whether the seat's ticket is served, and then takes the nonce table in hand.
+// Looks whether the seat's ticket is served, and then takes the nonce table in hand.
 fn look<E: Room>(board: &Board, token: &mut Token) -> u64
     requires room { E.room ≡ board.now.key.table.room }
     requires table { IsOf token.old.table_id board.now.table_id }
@@ -62,7 +71,7 @@ fn look<E: Room>(board: &Board, token: &mut Token) -> u64
     board.load::<Looks<E>>(token, SERVING)
 }
 
-/// Enters the call in the history, and answers its place.
+// Enters the call in the history, and answers its place.
 fn commit<E: Entered>(board: &Board, token: &mut Token, now: u64, until: u64, turned: Turned) -> u64
     requires call { (E.call.now ≡ now) × (E.call.until ≡ until)
         × (E.call.moment ≡ turned.moment) × (E.call.answer ≡ turned.answer) }
@@ -83,7 +92,7 @@ fn commit<E: Entered>(board: &Board, token: &mut Token, now: u64, until: u64, tu
     board.fetch_add::<Commits<E>>(token, COUNT, 1)
 }
 
-/// Passes the turn on, with the nonce table at home.
+// Passes the turn on, with the nonce table at home.
 fn pass(board: &Board, token: &mut Token)
     requires table { IsOf token.old.table_id board.now.table_id }
     requires done { token.old.me.0.stage ≡ IsDone }
@@ -94,9 +103,13 @@ fn pass(board: &Board, token: &mut Token)
     board.fetch_add::<Passes>(token, SERVING, 1);
 }
 
-/// Makes the call with the nonce table in hand, and passes the turn on. A key that the table refused comes back, so
-/// that its memory is let go after the turn.
-fn call_in_turn<A: Asked>(board: &Board, token: &mut Token, ask: Ask) -> (Turned, Option<NonceKey>)
+// Makes the call with the nonce table in hand, and passes the turn on. A key that the table refused comes back, so
+// that its memory is let go after the turn.
+fn call_in_turn<A: Asked>(
+    board: &Board,
+    token: &mut Token,
+    ask: NonceAsk,
+) -> (Turned, Option<NonceKey>)
     requires nonce { ask.key ≡ A.nonce }
     requires moment { (ask.now < MOMENT_LIMIT) × (ask.until ≤ MAX_UNTIL) }
     requires table { IsOf token.old.table_id board.now.table_id }
@@ -117,7 +130,7 @@ fn call_in_turn<A: Asked>(board: &Board, token: &mut Token, ask: Ask) -> (Turned
       [],
     ) }
 {
-    let Ask { key, now, until } = ask;
+    let NonceAsk { key, now, until } = ask;
     let Some(mut table) = board.exchange(token, HOME, None) else {
         unreachable!()
     };
@@ -128,13 +141,13 @@ fn call_in_turn<A: Asked>(board: &Board, token: &mut Token, ask: Ask) -> (Turned
     (Turned { place, ..turned }, returned)
 }
 
-/// Makes the call once the seat's turn has come. `asleep` counts the seats that sleep.
+// Makes the call once the seat's turn has come. `asleep` counts the seats that sleep.
 pub(crate) fn take<A: Asked, R: Wait>(
     rt: &R,
     board: &Board,
     asleep: &AtomicU64,
     token: &mut Token,
-    ask: Ask,
+    ask: NonceAsk,
 ) -> Turned
     requires nonce { ask.key ≡ A.nonce }
     requires moment { (ask.now < MOMENT_LIMIT) × (ask.until ≤ MAX_UNTIL) }
@@ -163,20 +176,21 @@ pub(crate) fn take<A: Asked, R: Wait>(
     unreachable!()
 }
 
-/// Gives the new seat so many of the calls that are left. It has seen as much.
+// Gives the new seat so many of the calls that are left. It has seen as much.
 pub(crate) fn split<E: Part>(board: &Board, token: &mut Token, share: u64) -> Token
     requires share { E.part ≡ share }
     requires table { IsOf token.old.table_id board.now.table_id }
     requires idle { IsIdle token.old.me }
     requires left { share ≤ token.old.me.0.left }
-    ensures table { (token.new.table_id ≡ token.old.table_id) × (result.table_id ≡ token.old.table_id) }
+    ensures table { (token.new.table_id ≡ token.old.table_id)
+        × (result.table_id ≡ token.old.table_id) }
     ensures kept { token.new.me ≡ (kept_part share token.old.me.0, []) }
     ensures given { result.me ≡ (given_part share token.old.me.0, []) }
 {
     board.split_seat::<Cuts<E>>(token)
 }
 
-/// Takes in what the other seat has left and where its calls stand.
+// Takes in what the other seat has left and where its calls stand.
 fn merge(board: &Board, token: &mut Token, other: Token)
     requires table { IsOf token.old.table_id board.now.table_id }
     requires other { other.table_id ≡ board.now.table_id }
@@ -188,7 +202,7 @@ fn merge(board: &Board, token: &mut Token, other: Token)
     board.join_seat::<Joins>(token, other);
 }
 
-/// Compares what a joined seat was told with what it has seen.
+// Compares what a joined seat was told with what it has seen.
 fn compare(board: &Board, token: &mut Token)
     requires table { IsOf token.old.table_id board.now.table_id }
     requires idle { IsIdle token.old.me }
@@ -199,7 +213,7 @@ fn compare(board: &Board, token: &mut Token)
     board.load::<Compares>(token, COUNT);
 }
 
-/// Takes in what the other seat has left and where its calls stand, and learns that both have seen one history.
+// Takes in what the other seat has left and where its calls stand, and learns that both have seen one history.
 pub(crate) fn join(board: &Board, token: &mut Token, other: Token)
     requires table { IsOf token.old.table_id board.now.table_id }
     requires other { other.table_id ≡ board.now.table_id }
@@ -216,7 +230,7 @@ pub(crate) fn join(board: &Board, token: &mut Token, other: Token)
     compare(board, token);
 }
 
-/// Takes the empty slot of a new table in hand.
+// Takes the empty slot of a new table in hand.
 fn take_slot(board: &Board, token: &mut Token)
     requires table { IsOf token.old.table_id board.now.table_id }
     requires opens { token.old.me ≡ (first_view board.now.key Opens, []) }
@@ -226,10 +240,11 @@ fn take_slot(board: &Board, token: &mut Token)
     board.load::<Empties>(token, COUNT);
 }
 
-/// Gives the slot back, with the nonce table in it.
+// Gives the slot back, with the nonce table in it.
 fn fill_slot(board: &Board, token: &mut Token)
     requires table { IsOf token.old.table_id board.now.table_id }
-    requires fills { token.old.me ≡ (first_view board.now.key Fills, (0, Some board.now.key.table) ∷ []) }
+    requires fills { token.old.me
+        ≡ (first_view board.now.key Fills, (0, Some board.now.key.table) ∷ []) }
     requires fresh { StandsFor board.now.key.table [] }
     ensures table { token.new.table_id ≡ token.old.table_id }
     ensures view { token.new.me ≡ (first_view board.now.key Idle, []) }
@@ -237,7 +252,7 @@ fn fill_slot(board: &Board, token: &mut Token)
     board.load::<Passes>(token, COUNT);
 }
 
-/// A table that holds no nonce table yet, with its first seat.
+// A table that holds no nonce table yet, with its first seat.
 fn empty_table(alloc: Global, terms: &Terms) -> Option<(Owned, Token)>
     requires share { terms.now.share < MAX_CALLS }
     ensures key { IfSome result (λ made. made.0.shared.key ≡ terms.now) }
@@ -247,7 +262,7 @@ fn empty_table(alloc: Global, terms: &Terms) -> Option<(Owned, Token)>
     Table::vacant(alloc, &[0, 0, 0], 1, terms).ok()
 }
 
-/// Shares a nonce table that has met no call, and gives it back where there is no memory.
+// Shares a nonce table that has met no call, and gives it back where there is no memory.
 pub(crate) fn open(
     alloc: Global,
     table: NonceTable,
@@ -255,9 +270,11 @@ pub(crate) fn open(
 ) -> Result<(Owned, Token), NonceTable>
     requires fresh { StandsFor table [] }
     requires share { share < MAX_CALLS }
-    ensures key { IfOk result (λ made. made.0.shared.key ≡ record { share = share; table = table }) }
+    ensures key { IfOk result (λ made.
+        made.0.shared.key ≡ record { share = share; table = table }) }
     ensures table { IfOk result (λ made. IsOf made.1.table_id made.0.shared.table_id) }
-    ensures view { IfOk result (λ made. made.1.me ≡ (first_view record { share = share; table = table } Idle, [])) }
+    ensures view { IfOk result (λ made.
+        made.1.me ≡ (first_view record { share = share; table = table } Idle, [])) }
     ensures refused { IfErr result (λ refused. refused ≡ table) }
 {
     let terms = Terms { share, table };
@@ -274,7 +291,7 @@ pub(crate) fn open(
     }
 }
 
-/// Takes the nonce table out for the seat that has the whole share.
+// Takes the nonce table out for the seat that has the whole share.
 pub(crate) fn close(table: Owned, token: Token) -> NonceTable
     requires table { IsOf token.table_id table.shared.table_id }
     requires idle { IsIdle token.me }

@@ -1,7 +1,7 @@
-// How a seat waits for its turn. Nothing here changes what a call answers.
-//
-// The seat whose ticket is next keeps looking, and never sleeps. Those further back sleep once no turn has passed for
-// a while, and whoever passes a turn on wakes them all.
+//! How a seat waits for its turn. Nothing here changes what a call answers.
+//!
+//! The seat whose ticket is next keeps looking, and never sleeps. Those further back sleep once no turn has passed for
+//! a while, and whoever passes a turn on wakes them all.
 
 ghost use Rattle.std.specs.Prelude.{◌≡◌};
 
@@ -11,10 +11,10 @@ use std::sync::Wait;
 use std::sync::atomic::{AtomicU64, Ordering};
 use std::thread;
 
-/// How often a seat looks without seeing a turn pass before it gives way to others.
+// How often a seat looks without seeing a turn pass before it gives way to others.
 const LOOKS: u32 = 500;
 
-/// How often a seat has looked since it saw a turn pass.
+// How often a seat has looked since it saw a turn pass.
 #[derive(Drop)]
 pub(crate) struct Patience {
     serving: u64,
@@ -29,7 +29,7 @@ impl Patience {
         }
     }
 
-    /// Counts one more look, which found this ticket served.
+    // Counts one more look, which found this ticket served.
     pub(crate) fn is_at_its_end(&mut self, serving: u64) -> bool {
         if self.serving != serving {
             self.serving = serving;
@@ -40,7 +40,7 @@ impl Patience {
     }
 }
 
-/// Lets other threads run, after a look at which so many turns were ahead of the seat's.
+// Lets other threads run, after a look at which so many turns were ahead of the seat's.
 pub(crate) fn give_way<R: Wait>(rt: &R, board: &Board, asleep: &AtomicU64, ahead: u64, serving: u64)
     requires { board.now.table_id.words ≡ 3 }
 {
@@ -58,7 +58,7 @@ pub(crate) fn give_way<R: Wait>(rt: &R, board: &Board, asleep: &AtomicU64, ahead
     asleep.fetch_sub(1, Ordering::SeqCst);
 }
 
-/// Wakes those who sleep. It comes behind the step that passes the turn on.
+// Wakes those who sleep. It comes behind the step that passes the turn on.
 pub(crate) fn wake_sleepers(board: &Board, asleep: &AtomicU64)
     requires { board.now.table_id.words ≡ 3 }
 {

@@ -11,7 +11,7 @@ returns-clause-apart g c =
     let turned = c.take-turned.result in
     let called = c.take-turned.ensures.call in
     subst (λ (ps : List ℕ). AreDistinctBelow (length me'.seen) ps) (sym called.mine)
-    (entered_apart me.seen me'.seen (call_of c.args.key c.args.now c.args.until turned) turned.place me.places called.entered c.seat.invariant.apart)
+    (entered_apart me.seen me'.seen (call_of c.args.ask.key c.args.ask.now c.args.ask.until turned) turned.place me.places called.entered c.seat.invariant.apart)
 
 pub invariant_of-seat : goal.invariant_of-seat
 invariant_of-seat g c =
@@ -27,5 +27,5 @@ invariant_of-seat g c =
       used = omega (arith, more, was.used);
       small = omega (arith, was.small, called.left, was.left);
       apart = subst (λ (ps : List ℕ). AreDistinctBelow (length me'.seen) ps) (sym called.mine)
-          (entered_apart me.seen me'.seen (call_of c.args.key c.args.now c.args.until turned) turned.place me.places called.entered was.apart);
+          (entered_apart me.seen me'.seen (call_of c.args.ask.key c.args.ask.now c.args.ask.until turned) turned.place me.places called.entered was.apart);
     }
