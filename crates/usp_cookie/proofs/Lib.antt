@@ -1,2 +1,5 @@
 pub mod Pairs
 pub mod Keeping
+pub mod Settings
+pub mod Places
+pub mod Headers

@@ -1,1 +1,4 @@
 pub mod Cookies
+pub mod SetCookies
+pub mod Jars
+pub mod Joining

@@ -1,7 +1,10 @@
-//! Laws of the cookie's path.
+//! Laws of the cookie's path, and of the jar.
 
-ghost use Rattle.std.specs.Prelude.{◌≡◌, ◌≤◌, ℕ, List, length};
+ghost use Rattle.std.specs.Prelude.{◌≡◌, ◌≤◌, ℕ, List, true, length};
 ghost use Rattle.usp_cookie.specs.Cookies.{MayKeep, kept_segments};
+ghost use Rattle.usp_cookie.specs.Jars.{covers, stored};
+ghost use Rattle.usp_cookie.specs.declared.cookie.Cookie.{Cookie};
+ghost use Rattle.usp_cookie.specs.declared.limits.TheConstants.{MAX_COOKIES};
 
 /// The segments that are kept may be kept, where there is one at all, and no more of them may.
 pub fn keeps_the_most_segments()
@@ -9,4 +12,16 @@ pub fn keeps_the_most_segments()
         → MayKeep depth segments (kept_segments depth segments) }
     ensures most { (depth : ℕ) (segments kept : List (List ℕ)) → MayKeep depth segments kept
         → length kept ≤ length (kept_segments depth segments) }
+{}
+
+/// A jar that keeps no more cookies than its limit keeps no more after a Set-Cookie value.
+pub fn keeps_at_most_its_limit()
+    ensures { (authority asked value : List ℕ) (jar : List Cookie) → length jar ≤ MAX_COOKIES
+        → length (stored authority asked value jar) ≤ MAX_COOKIES }
+{}
+
+/// A path that covers the one asked for is no longer. So the header, which takes the cookies of each such
+/// length, leaves out none that goes with the request.
+pub fn sends_each_that_covers()
+    ensures { (own asked : List ℕ) → covers own asked ≡ true → length own ≤ length asked }
 {}

@@ -5,3 +5,4 @@ pub mod Buffers
 pub mod Reading
 pub mod Finding
 pub mod Texts
+pub mod Spelling

@@ -1,5 +1,5 @@
--- What the fields of a request's head say. A field is its name and its value, without the white space around that.
-use Rattle.std.specs.Prelude.{ℕ, Bool, not, ◌&&◌, ◌||◌, ◌==◌, List, [], ◌∷◌, filter, map, codes}
+-- What the fields of a head say. A field is its name and its value, without the white space around that.
+use Rattle.std.specs.Prelude.{ℕ, Bool, not, ◌&&◌, ◌||◌, ◌==◌, List, [], ◌∷◌, filter, map, codes, Option, Some, None}
 use Rattle.std.specs.List.{list_any, slice_split}
 use Rattle.std.specs.Str.{bytes_eq, str_eq_ignore_ascii_case}
 use Rattle.usp_base.specs.Blanks.{trim_blanks}
@@ -16,6 +16,11 @@ values_of name fields = map (λ field. field.1) (filter (is_named name) fields)
 abbrev pub only : List (List ℕ) → List ℕ
 only (value ∷ []) = value
 only values = []
+
+-- the first value
+abbrev pub first_of : List (List ℕ) → Option (List ℕ)
+first_of [] = None
+first_of (value ∷ values) = Some value
 
 abbrev pub comma : ℕ
 comma = 44

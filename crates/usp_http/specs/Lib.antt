@@ -5,3 +5,5 @@ pub mod Reader
 pub mod Finding
 pub mod Pauses
 pub mod Replies
+pub mod Digits
+pub mod Hearing

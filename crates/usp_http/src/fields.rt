@@ -1,9 +1,10 @@
 //! What the fields of a head say.
 ghost use Rattle.std.specs.Prelude.{◌≡◌, ◌≤◌, ◌==◌, All, length, map, codes, IfOk};
 ghost use Rattle.std.specs.List.{list_any};
+ghost use Rattle.std.specs.Option.{option_copied};
 ghost use Rattle.std.specs.Str.{str_eq_ignore_ascii_case};
 ghost use Rattle.httparse.specs.Spans.{IsHeaderWithin, header_bytes};
-ghost use Rattle.usp_http.specs.Fields.{has_close, is_close, is_closing, is_named, is_of_body, only, values_of};
+ghost use Rattle.usp_http.specs.Fields.{first_of, has_close, is_close, is_closing, is_named, is_of_body, only, values_of};
 
 use crate::NoMemory;
 use httparse::spans::HeaderSpan;
@@ -70,42 +71,57 @@ pub(crate) fn announces_body(bytes: &[u8], spans: &[HeaderSpan]) -> bool
     false
 }
 
-/// The value of the only `Host` field.
+/// The value of the only field of that name. Nothing where there is none or more than one.
 #[tactic(auto, using(crate::proofs::Hosts::host_first, crate::proofs::Hosts::host_found))]
-pub(crate) fn host_in<'b>(bytes: &'b [u8], spans: &[HeaderSpan]) -> &'b [u8]
+pub(crate) fn only_in<'b>(bytes: &'b [u8], spans: &[HeaderSpan], name: &[u8]) -> &'b [u8]
     requires { All (IsHeaderWithin (length bytes.now)) spans.now }
-    ensures { result.now ≡ only (values_of (codes "host") (map (header_bytes bytes.now) spans.now)) }
+    ensures { result.now ≡ only (values_of name.now (map (header_bytes bytes.now) spans.now)) }
 {
-    let mut host: &[u8] = b"";
+    let mut value: &[u8] = b"";
     let mut found = false;
     for span in spans {
-        if is_same_name(span.name.of(bytes), b"host") {
+        if is_same_name(span.name.of(bytes), name) {
             if found {
                 return b"";
             }
-            host = span.value.of(bytes);
+            value = span.value.of(bytes);
             found = true;
         }
     }
-    host
+    value
 }
 
-/// The values of the `Cookie` fields.
-pub(crate) fn cookies_in(
+/// The value of the first field of that name.
+pub(crate) fn first_in<'b>(bytes: &'b [u8], spans: &[HeaderSpan], name: &[u8]) -> Option<&'b [u8]>
+    requires { All (IsHeaderWithin (length bytes.now)) spans.now }
+    ensures { option_copied result
+        ≡ first_of (values_of name.now (map (header_bytes bytes.now) spans.now)) }
+{
+    for span in spans {
+        if is_same_name(span.name.of(bytes), name) {
+            return Some(span.value.of(bytes));
+        }
+    }
+    None
+}
+
+/// The values of the fields of that name, in order.
+pub(crate) fn values_in(
     alloc: Global,
     bytes: &[u8],
     spans: &[HeaderSpan],
+    name: &[u8],
 ) -> Result<Vec<Octets>, NoMemory>
     requires { All (IsHeaderWithin (length bytes.now)) spans.now }
-    ensures { IfOk result (λ cookies. cookies.items
-        ≡ values_of (codes "cookie") (map (header_bytes bytes.now) spans.now)) }
+    ensures { IfOk result (λ values. values.items
+        ≡ values_of name.now (map (header_bytes bytes.now) spans.now)) }
 {
-    let mut cookies = Vec::new(alloc);
+    let mut values = Vec::new(alloc);
     for span in spans {
-        if is_same_name(span.name.of(bytes), b"cookie") {
+        if is_same_name(span.name.of(bytes), name) {
             let value = Vec::from_slice(alloc, span.value.of(bytes))?;
-            cookies.push(Octets::of(value))?;
+            values.push(Octets::of(value))?;
         }
     }
-    Ok(cookies)
+    Ok(values)
 }

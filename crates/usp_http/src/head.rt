@@ -4,7 +4,7 @@ ghost use Rattle.httparse.specs.Grammar.{RequestHead};
 ghost use Rattle.httparse.specs.Spans.{IsRequestAt, IsRequestWithin};
 ghost use Rattle.usp_http.specs.Heads.{head_of, method_of};
 
-use crate::fields::{announces_body, closes, cookies_in, host_in};
+use crate::fields::{announces_body, closes, only_in, values_in};
 use httparse::spans::{HeaderSpan, RequestSpans};
 use std::alloc::{AllocError, AllocFailed, Global};
 use std::error::Error;
@@ -88,8 +88,8 @@ pub(crate) fn head_at(
     Ok(Head {
         method: method_of(at.method.of(bytes)),
         target: Octets::of(Vec::from_slice(alloc, at.path.of(bytes))?),
-        host: Octets::of(Vec::from_slice(alloc, host_in(bytes, fields))?),
-        cookies: Rows::of(cookies_in(alloc, bytes, fields)?),
+        host: Octets::of(Vec::from_slice(alloc, only_in(bytes, fields, b"host"))?),
+        cookies: Rows::of(values_in(alloc, bytes, fields, b"cookie")?),
         last: at.version == 0 || closes(bytes, fields),
         body: announces_body(bytes, fields),
     })

@@ -2,7 +2,10 @@
 ghost use Rattle.std.specs.Prelude.{◌≡◌, IfOk};
 ghost use Rattle.usp_http.specs.Replies.{IsStatus};
 
-use crate::{Field, HeadReader, Method, Next, NoMemory, Reply, reply_bytes};
+use crate::{
+    Field, HeadReader, HeardFault, MAX_HEAD, Method, Next, NoMemory, Reply, read_digits,
+    read_reply, reply_bytes,
+};
 use std::alloc::{AllocError, Global};
 use std::test::Fail;
 use usp_base::{ListedSource, Octets, Source, SteadySource};
@@ -423,4 +426,172 @@ fn a_reply_names_its_status(rt: HostRuntime) -> Result<(), Fail> {
         }
     }
     Ok(())
+}
+
+// What is heard in a reply, as (status, location, cookies, body).
+type HeardParts = (
+    u16,
+    Option<&'static str>,
+    &'static [&'static str],
+    &'static str,
+);
+
+fn hears(alloc: Global, bytes: &[u8], parts: &HeardParts) -> bool {
+    let (status, location, cookies, body) = parts;
+    match read_reply(alloc, bytes) {
+        Ok(heard) => {
+            let found = heard.cookies.rows();
+            heard.status == *status
+                && heard.location.as_ref().map(|value| value.bytes())
+                    == location.map(|value| value.as_bytes())
+                && heard.body.bytes() == body.as_bytes()
+                && found.len() == cookies.len()
+                && found
+                    .iter()
+                    .zip(*cookies)
+                    .all(|(a, b)| a.bytes() == b.as_bytes())
+        }
+        Err(_) => false,
+    }
+}
+
+#[test]
+fn a_reply_is_heard_with_its_parts(rt: HostRuntime) {
+    let alloc = rt.alloc();
+    let rows: [(&str, HeardParts); 11] = [
+        (
+            "HTTP/1.1 200 OK\r\nContent-Length: 2\r\n\r\nok",
+            (200, None, &[], "ok"),
+        ),
+        (
+            "HTTP/1.0 200\r\ncontent-LENGTH:\t002 \r\n\r\nok",
+            (200, None, &[], "ok"),
+        ),
+        (
+            "\r\nHTTP/1.1 200 OK\nContent-Length: 2\n\nok",
+            (200, None, &[], "ok"),
+        ),
+        (
+            "HTTP/1.1 302 Found\r\nLocation: /x\r\nContent-Length: 0\r\n\r\n",
+            (302, Some("/x"), &[], ""),
+        ),
+        (
+            "HTTP/1.1 302 Found\r\nlocation: /a\r\nContent-Length: 000\r\nLocation: /b\r\n\r\n",
+            (302, Some("/a"), &[], ""),
+        ),
+        (
+            "HTTP/1.1 302 Found\r\nLocation:\r\nContent-Length: 0\r\n\r\n",
+            (302, Some(""), &[], ""),
+        ),
+        (
+            "HTTP/1.1 200 OK\r\nset-cookie: a=1\r\nContent-Length: 1\r\nSet-Cookie: b=2; Path=/\r\n\r\n\n",
+            (200, None, &["a=1", "b=2; Path=/"], "\n"),
+        ),
+        (
+            "HTTP/1.1 403 Forbidden\r\nContent-Length: 18\r\n\r\ndenied 13 Expired\n",
+            (403, None, &[], "denied 13 Expired\n"),
+        ),
+        (
+            "HTTP/1.1 100 Continue\r\nContent-Length: 0\r\n\r\n",
+            (100, None, &[], ""),
+        ),
+        (
+            "HTTP/1.1 204 No Content\r\nContent-Length: 2\r\n\r\n\r\n",
+            (204, None, &[], "\r\n"),
+        ),
+        (
+            "HTTP/1.1 200 OK\r\nTransfer-Encoding: chunked\r\nX-Content-Length: 9\r\nContent-Length: 1\r\n\r\nx",
+            (200, None, &[], "x"),
+        ),
+    ];
+    for (bytes, parts) in rows {
+        assert!(rt; hears(alloc, bytes.as_bytes(), &parts), "{bytes}");
+    }
+}
+
+#[test]
+fn bytes_that_are_no_whole_reply_are_not_heard(rt: HostRuntime) {
+    for bytes in [
+        "HTTP/1.1 200 OK\r\nContent-Length: 2\r\n\r\no",
+        "HTTP/1.1 200 OK\r\nContent-Length: 2\r\n\r\nokk",
+        "HTTP/1.1 200 OK\r\n\r\nok",
+        "HTTP/1.1 200 OK\r\n\r\n",
+        "HTTP/1.1 200 OK\r\nContent-Length: 2\r\nContent-Length: 2\r\n\r\nok",
+        "HTTP/1.1 200 OK\r\nContent-Length: 2\r\ncontent-length: 3\r\n\r\nok",
+        "HTTP/1.1 200 OK\r\nContent-Length: 2, 2\r\n\r\nok",
+        "HTTP/1.1 200 OK\r\nContent-Length: +2\r\n\r\nok",
+        "HTTP/1.1 200 OK\r\nContent-Length: 2.0\r\n\r\nok",
+        "HTTP/1.1 200 OK\r\nContent-Length: 0x2\r\n\r\nok",
+        "HTTP/1.1 200 OK\r\nContent-Length:\r\n\r\n",
+        "HTTP/1.1 200 OK\r\nContent-Length: 18446744073709551618\r\n\r\nok",
+        "HTTP/1.1 200 OK\r\nContent-Length: 340282366920938463463374607431768211458\r\n\r\nok",
+        "HTTP/1.1 200 OK\r\nContent-Length: 2\r\n",
+        "HTTP/1.1 20 OK\r\nContent-Length: 2\r\n\r\nok",
+        "HTTP/2 200 OK\r\nContent-Length: 2\r\n\r\nok",
+        "GET / HTTP/1.1\r\nContent-Length: 2\r\n\r\nok",
+        "ok",
+        "",
+    ] {
+        let found = read_reply(rt.alloc(), bytes.as_bytes()).err();
+        assert!(rt; found == Some(HeardFault::BadReply), "{bytes}");
+    }
+}
+
+// A reply whose head has so many fields and so many bytes.
+fn reply_of(alloc: Global, fields: usize, head: usize) -> Result<Vec<u8>, AllocError> {
+    let mut bytes = b"HTTP/1.1 200 OK\r\nContent-Length: 2\r\n".to_vec(alloc)?;
+    for _ in 2..fields {
+        bytes.extend_from_slice(b"a: 1\r\n")?;
+    }
+    bytes.extend_from_slice(b"b: ")?;
+    for _ in bytes.len()..head.saturating_sub(4) {
+        bytes.push(b'x')?;
+    }
+    bytes.extend_from_slice(b"\r\n\r\nok")?;
+    Ok(bytes)
+}
+
+#[test]
+fn a_reply_is_heard_up_to_the_limits_of_its_head(rt: HostRuntime) -> Result<(), Fail> {
+    for (fields, head, heard) in [
+        (64, 1_000, true),
+        (65, 1_000, false),
+        (2, MAX_HEAD, true),
+        (2, MAX_HEAD + 1, false),
+        (64, MAX_HEAD, true),
+    ] {
+        let bytes = reply_of(rt.alloc(), fields, head)?;
+        assert_eq!(rt; bytes.len(), head.saturating_add(2));
+        assert_eq!(rt;
+            read_reply(rt.alloc(), &bytes).is_ok(),
+            heard,
+            "{fields} {head}"
+        );
+    }
+    Ok(())
+}
+
+#[test]
+fn digits_spell_numbers_up_to_the_greatest(rt: HostRuntime) {
+    for (text, most, number) in [
+        ("0", 0, Some(0)),
+        ("000", 0, Some(0)),
+        ("1", 0, None),
+        ("00042", 42, Some(42)),
+        ("43", 42, None),
+        ("18446744073709551615", u64::MAX, Some(u64::MAX)),
+        ("18446744073709551616", u64::MAX, None),
+        (
+            "99999999999999999999999999999999999999999999",
+            u64::MAX,
+            None,
+        ),
+        ("", 9, None),
+        (" 1", 9, None),
+        ("1 ", 9, None),
+        ("-1", 9, None),
+        ("1a", 99, None),
+    ] {
+        assert!(rt; read_digits(text.as_bytes(), most) == number, "{text}");
+    }
 }

@@ -1,0 +1,146 @@
+//! Why a playlist or a map was refused.
+ghost use Rattle.std.specs.Prelude.{◌≡◌, ◌↔◌, true};
+
+use std::alloc::{AllocError, AllocFailed};
+use std::error::Error;
+use std::fmt;
+
+/// Why a playlist was refused. Lines count from 1.
+#[derive(Clone, Copy, Debug, PartialEq, Eq)]
+pub enum ListFault {
+    /// It has more than `MAX_PLAYLIST` bytes.
+    TooLong,
+    /// The sequence that begins at this offset is not UTF-8 (RFC 8216, section 4.1).
+    NotUtf8 { at: usize },
+    /// The first line is not `#EXTM3U` (RFC 8216, section 4.3.1.1).
+    NoHeader,
+    /// The target duration is no number up to `MAX_TARGET`, or it is not the first (RFC 8216, section 4.3.3.1).
+    BadTarget { line: usize },
+    /// The `#EXTINF:` has no duration, or no URI comes before the next one and before the end (RFC 8216,
+    /// section 4.3.2.1).
+    BadInf { line: usize },
+    /// The URI has no `#EXTINF:`.
+    NoInf { line: usize },
+    /// Segments that are a part of a resource are not played (RFC 8216, section 4.3.2.2).
+    ByteRange { line: usize },
+    /// The URI is one more than `MAX_SEGMENTS`.
+    TooMany { line: usize },
+    /// There is no target duration.
+    NoTarget,
+    NoMemory,
+}
+
+impl ListFault {
+    ghost use Rattle.usp_player.specs.declared.fault.ListFault.TheVariants.{NoMemory};
+
+    /// Whether there was no memory, so that the same call may succeed later.
+    pub fn is_memory(self) -> bool
+        ensures { (result ≡ true) ↔ (self ≡ NoMemory) }
+    {
+        self == ListFault::NoMemory
+    }
+}
+
+impl fmt::Display for ListFault {
+    fn fmt<W: fmt::Write>(&self, f: &mut fmt::Formatter<W>) -> fmt::Result {
+        match self {
+            ListFault::TooLong => write!(f, "the playlist has more than 4194304 bytes: cut it"),
+            ListFault::NotUtf8 { at } => write!(f, "the bytes at {at} are not UTF-8: encode them"),
+            ListFault::NoHeader => write!(f, "line 1 is not #EXTM3U: this may be no playlist"),
+            ListFault::BadTarget { line } => write!(
+                f,
+                "line {line}: give one whole target duration below 2^32"
+            ),
+            ListFault::BadInf { line } => write!(
+                f,
+                "line {line}: give #EXTINF: a duration in digits, and a URI before the next one"
+            ),
+            ListFault::NoInf { line } => write!(f, "line {line}: put #EXTINF: before the URI"),
+            ListFault::ByteRange { line } => write!(
+                f,
+                "line {line}: segments that are byte ranges are not played"
+            ),
+            ListFault::TooMany { line } => write!(
+                f,
+                "line {line}: the playlist has more than 10000 segments: cut it"
+            ),
+            ListFault::NoTarget => write!(f, "add #EXT-X-TARGETDURATION: and a number"),
+            ListFault::NoMemory => write!(f, "out of memory: try again with more"),
+        }
+    }
+}
+
+impl Error for ListFault {}
+
+impl From<AllocError> for ListFault {
+    ghost use Rattle.usp_player.specs.declared.fault.ListFault.TheVariants.{NoMemory};
+
+    ghost from_gives = { λ _ e. e ≡ NoMemory };
+
+    fn from(_: AllocError) -> Self {
+        ListFault::NoMemory
+    }
+}
+
+impl<T: Drop> From<AllocFailed<T>> for ListFault {
+    ghost use Rattle.usp_player.specs.declared.fault.ListFault.TheVariants.{NoMemory};
+
+    ghost from_gives = { λ _ e. e ≡ NoMemory };
+
+    fn from(_: AllocFailed<T>) -> Self {
+        ListFault::NoMemory
+    }
+}
+
+/// Why a map was refused. Lines count from 1.
+#[derive(Clone, Copy, Debug, PartialEq, Eq)]
+pub enum MapFault {
+    /// The line is not an authority and an address, parted by one space.
+    Line { line: usize },
+    NoMemory,
+}
+
+impl MapFault {
+    ghost use Rattle.usp_player.specs.declared.fault.MapFault.TheVariants.{NoMemory};
+
+    /// Whether there was no memory, so that the same call may succeed later.
+    pub fn is_memory(self) -> bool
+        ensures { (result ≡ true) ↔ (self ≡ NoMemory) }
+    {
+        self == MapFault::NoMemory
+    }
+}
+
+impl fmt::Display for MapFault {
+    fn fmt<W: fmt::Write>(&self, f: &mut fmt::Formatter<W>) -> fmt::Result {
+        match self {
+            MapFault::Line { line } => write!(
+                f,
+                "line {line}: write an authority, one space and an address, as `h:80 127.0.0.1:80`"
+            ),
+            MapFault::NoMemory => write!(f, "out of memory: try again with more"),
+        }
+    }
+}
+
+impl Error for MapFault {}
+
+impl From<AllocError> for MapFault {
+    ghost use Rattle.usp_player.specs.declared.fault.MapFault.TheVariants.{NoMemory};
+
+    ghost from_gives = { λ _ e. e ≡ NoMemory };
+
+    fn from(_: AllocError) -> Self {
+        MapFault::NoMemory
+    }
+}
+
+impl<T: Drop> From<AllocFailed<T>> for MapFault {
+    ghost use Rattle.usp_player.specs.declared.fault.MapFault.TheVariants.{NoMemory};
+
+    ghost from_gives = { λ _ e. e ≡ NoMemory };
+
+    fn from(_: AllocFailed<T>) -> Self {
+        MapFault::NoMemory
+    }
+}
