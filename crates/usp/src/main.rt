@@ -31,7 +31,7 @@ fn words_of<R: Runtime + AllocGlobal>(rt: &R) -> io::Result<Vec<String>> {
     Ok(words)
 }
 
-// Runs the words, and answers the number of the status.
+// Runs the words, and answers the exit code, whose number is that of the status.
 fn run_to_the_end<F: Files, S: Source, K: Sink>(
     alloc: Global,
     words: &[String],
@@ -40,7 +40,8 @@ fn run_to_the_end<F: Files, S: Source, K: Sink>(
     ensures { (status : Status) × (exit_status result ≡ status_number status)
         × Runs (map (λ w. string_bytes w) words.now)
         (world_of F.Files S.Source K.Sink outside.old.files outside.old.input outside.old.out)
-        (world_of F.Files S.Source K.Sink outside.new.files outside.new.input outside.new.out) status }
+        (world_of F.Files S.Source K.Sink outside.new.files outside.new.input outside.new.out)
+        status }
 {
     run(alloc, words, outside).exit_code()
 }
