@@ -82,10 +82,12 @@ impl<R: Read + Drop> Source for Incoming<R> {
     fn read(&mut self, into: &mut [u8]) -> Result<usize, Failed>
         ensures count { IfOk result (λ n. n ≤ length into.new) }
         ensures over { IfOk result (λ n. n ≡ 0 → self.new.ended ≡ true) }
-        ensures stays_over { self.old.ended ≡ true → IfOk result (λ n. n ≡ 0) × (self.new.ended ≡ true) }
+        ensures stays_over { self.old.ended ≡ true
+            → IfOk result (λ n. n ≡ 0) × (self.new.ended ≡ true) }
         ensures cause { HasCause self.old.faults self.new.faults (IsErr result) }
         ensures given { self.old.ended ≡ false
-            → ReadConsumes (R.remaining self.old.reader) (R.remaining self.new.reader) result into.new }
+            → ReadConsumes (R.remaining self.old.reader) (R.remaining self.new.reader)
+            result into.new }
         ensures unasked { self.old.ended ≡ true → self.new ≡ self.old }
     {
         if self.ended {

@@ -26,7 +26,8 @@ use Rattle.usp_conf.specs.Texts.{required, optional, text_of, tested, text_that,
 use Rattle.usp_issue.specs.declared.limits.TheConstants.{MAX_ROUTES}
 use Rattle.usp_jws.specs.declared.limits.TheConstants.{MAX_KEYS, MAX_SECRET, MIN_SECRET}
 use Rattle.usp_claims.specs.declared.limits.TheConstants.{MAX_NUMBER}
-use Rattle.usp_conf.specs.declared.limits.TheConstants.{MAX_EXTENSIONS, MAX_IDENTITIES, MAX_ROOM}
+use Rattle.usp_conf.specs.declared.limits.TheConstants.{MAX_EXTENSIONS, MAX_IDENTITIES}
+use Rattle.usp_nonce.specs.declared.limits.TheConstants.{MAX_ROOM}
 use Rattle.usp_conf.specs.declared.fault.ConfFault.{ConfFault}
 use Rattle.usp_conf.specs.declared.fault.ConfFault.TheVariants as fault
 use Rattle.usp_conf.specs.declared.member.Member.{Member}

@@ -9,6 +9,8 @@ use Rattle.serde_json.specs.Data.{Data, Items, no_items, item}
 use Rattle.serde_json.specs.Find.{get, as_str, as_array, as_object}
 use Rattle.std.specs.Option.{option_or}
 use Rattle.std.proofs.lemmas.List.Folds.{find-append}
+use Rattle.std.proofs.lemmas.Option.{none-some}
+use Rattle.usp_base.proofs.Facts.{same_some}
 use Rattle.usp_jws.specs.Keys.{KeyValue, first_repeat, key_named}
 use Rattle.usp_jws.specs.Letters.{is_kid}
 use Rattle.usp_package.specs.Name.{is_attr_name}
@@ -166,23 +168,17 @@ pub named : (text : List ℕ) (value : ConfValue) → Configures text value → 
 named text value is = All-from_recursion (λ key. is_kid key.kid ≡ true) value.site.profile.ring
     (of_each value.site.profile.ring (sound text value is).keys.named.each)
 
-some_one : (a b : KeyValue) → Some a ≡ Some b → b ≡ a
-some_one a b e = grind arith
-
-none_some : (a : KeyValue) → None ≡ Some a → ⊥
-none_some a e = grind arith
-
 first_of : (p : KeyValue → Bool) (key : KeyValue) (b : Bool) → p key ≡ b → find p (key ∷ []) ≡ (if b then Some key else None)
 first_of p key true is = rw is refl
 first_of p key false is = rw is refl
 
 either : (b : Bool) (first key : KeyValue) (rest : Option KeyValue) → option_or (if b then Some first else None) rest ≡ Some key
     → IsNamed first → (rest ≡ Some key → IsNamed key) → IsNamed key
-either true first key rest is one more = rw (some_one first key is) one
+either true first key rest is one more = rw (sym (same_some first key is)) one
 either false first key rest is one more = more is
 
 named_first : (p : KeyValue → Bool) (keys : List KeyValue) (key : KeyValue) → AllByRecursion IsNamed keys → find p keys ≡ Some key → IsNamed key
-named_first p [] key are is = absurd (none_some key is)
+named_first p [] key are is = absurd (none-some key is)
 named_first p (first ∷ keys) key are is =
     either (p first) first key (find p keys)
     (sym (ap (λ o. option_or o (find p keys)) (first_of p first (p first) refl)) ∙ sym (find-append p (first ∷ []) keys) ∙ is)

@@ -13,6 +13,7 @@ Gives (Ok value) defined = defined ≡ Ok value
 Gives (Err found) defined = Refuses found defined
 
 -- the next row is tried where this one is right
-abbrev pub and_then : {A B : Type 0} → Result A ConfFault → (A → Result B ConfFault) → Result B ConfFault
+abbrev pub and_then : {A B : Type 0} → Result A ConfFault → (A → Result B ConfFault)
+    → Result B ConfFault
 and_then (Ok value) next = next value
 and_then (Err found) next = Err found

@@ -68,11 +68,12 @@ texts_of values = and_then (each json_text_of values) (λ texts. Ok (items texts
 
 abbrev pub several_of : Data → Result Setting ConfFault
 several_of value =
-    option_map_or (λ values. and_then (texts_of values) (λ texts. Ok (setting.Several texts))) (as_array value)
-    (Err (fault.Kind member.Setting))
+    option_map_or (λ values. and_then (texts_of values) (λ texts. Ok (setting.Several texts)))
+    (as_array value) (Err (fault.Kind member.Setting))
 
 abbrev pub most_of : Data → Result Setting ConfFault
-most_of value = and_then (number_of member.Setting 0 MAX_NUMBER value) (λ most. Ok (setting.Number most))
+most_of value =
+    and_then (number_of member.Setting 0 MAX_NUMBER value) (λ most. Ok (setting.Number most))
 
 abbrev pub setting_value : TestKind → Data → Result Setting ConfFault
 setting_value kind.Any = nothing_of
@@ -100,7 +101,8 @@ extension_in fields =
 -- one of the extensions is of a claim of an earlier one
 abbrev pub repeats_behind : List Extension → List Extension → Bool
 repeats_behind earlier [] = false
-repeats_behind earlier (one ∷ more) = is_listed one.claim earlier || repeats_behind (earlier ++ one ∷ []) more
+repeats_behind earlier (one ∷ more) =
+    is_listed one.claim earlier || repeats_behind (earlier ++ one ∷ []) more
 
 abbrev pub distinct_extensions : List Extension → Result (List Extension) ConfFault
 distinct_extensions extensions =
@@ -108,7 +110,8 @@ distinct_extensions extensions =
 
 abbrev pub extensions_value : Data → Result (List Extension) ConfFault
 extensions_value value =
-    and_then (rows_of member.Extensions 0 MAX_EXTENSIONS (object_of member.Extensions extension_in) value)
+    and_then
+    (rows_of member.Extensions 0 MAX_EXTENSIONS (object_of member.Extensions extension_in) value)
     distinct_extensions
 
 abbrev pub extensions_of : Data → Result (List Extension) ConfFault

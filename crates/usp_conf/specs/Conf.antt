@@ -15,7 +15,8 @@ use Rattle.usp_conf.specs.Values.{ConfValue, conf}
 use Rattle.usp_conf.specs.declared.fault.ConfFault.{ConfFault}
 use Rattle.usp_conf.specs.declared.member.Member.TheVariants as member
 
-abbrev pub profile : List KeyValue → List (List ℕ) → List (List ℕ) → List ℕ → List Extension → Profile
+abbrev pub profile : List KeyValue → List (List ℕ) → List (List ℕ) → List ℕ → List Extension
+    → Profile
 profile keys issuers audience attribute extensions = record {
   ring = keys;
   issuers = issuers;
@@ -38,4 +39,5 @@ conf_of fields =
     and_then (extensions_of fields) (λ extensions.
     and_then (routes_of fields) (λ routes.
     and_then (enforce_of fields) (λ on.
-    Ok (conf edge scheme room (site (profile keys issuers audience attribute extensions) sign routes)))))))))))))
+    Ok (conf edge scheme room
+    (site (profile keys issuers audience attribute extensions) sign routes)))))))))))))

@@ -25,10 +25,12 @@ secret_of_length kid bytes =
 
 -- the bytes that a text is in base64url (RFC 4648 section 5)
 abbrev pub secret_bytes : List ℕ → Option (List ℕ) → Result (List ℕ) ConfFault
-secret_bytes kid bytes = option_map_or (secret_of_length kid) bytes (Err (fault.Range member.Secret))
+secret_bytes kid bytes =
+    option_map_or (secret_of_length kid) bytes (Err (fault.Range member.Secret))
 
 abbrev pub secret_value : List ℕ → Data → Result (List ℕ) ConfFault
-secret_value kid value = and_then (text_of member.Secret value) (λ text. secret_bytes kid (b64u_bytes text))
+secret_value kid value =
+    and_then (text_of member.Secret value) (λ text. secret_bytes kid (b64u_bytes text))
 
 abbrev pub secret_of : List ℕ → Data → Result (List ℕ) ConfFault
 secret_of kid = required member.Secret (secret_value kid)
@@ -51,7 +53,8 @@ abbrev pub distinct_keys : List KeyValue → Result (List KeyValue) ConfFault
 distinct_keys keys = if is_some (first_repeat keys) then Err (fault.Repeat member.Kid) else Ok keys
 
 abbrev pub keys_value : Data → Result (List KeyValue) ConfFault
-keys_value value = and_then (rows_of member.Keys 1 MAX_KEYS (object_of member.Keys key_in) value) distinct_keys
+keys_value value =
+    and_then (rows_of member.Keys 1 MAX_KEYS (object_of member.Keys key_in) value) distinct_keys
 
 abbrev pub keys_of : Data → Result (List KeyValue) ConfFault
 keys_of = required member.Keys keys_value

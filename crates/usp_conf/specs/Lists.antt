@@ -25,14 +25,18 @@ abbrev pub has_length : ℕ → ℕ → Items → Bool
 has_length least most items = nat_le least (count items) && nat_le (count items) most
 
 -- a list of so many elements; its length is tried before its elements
-abbrev pub rows_of : {A : Type 0} → Member → ℕ → ℕ → (Data → Result A ConfFault) → Data → Result (List A) ConfFault
+abbrev pub rows_of : {A : Type 0} → Member → ℕ → ℕ → (Data → Result A ConfFault) → Data
+    → Result (List A) ConfFault
 rows_of of least most read value =
-    option_map_or (λ items. if has_length least most items then each read items else Err (fault.Range of))
+    option_map_or
+    (λ items. if has_length least most items then each read items else Err (fault.Range of))
     (as_array value) (Err (fault.Kind of))
 
 -- an element that must be an object
-abbrev pub object_of : {A : Type 0} → Member → (Data → Result A ConfFault) → Data → Result A ConfFault
-object_of list read value = option_map_or (λ members. read value) (as_object value) (Err (fault.Kind list))
+abbrev pub object_of : {A : Type 0} → Member → (Data → Result A ConfFault) → Data
+    → Result A ConfFault
+object_of list read value =
+    option_map_or (λ members. read value) (as_object value) (Err (fault.Kind list))
 
 abbrev pub identities_of : Member → Data → Result (List (List ℕ)) ConfFault
 identities_of of = optional of [] (rows_of of 0 MAX_IDENTITIES (identity_of of))

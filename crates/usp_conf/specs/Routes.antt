@@ -42,7 +42,8 @@ authority_value scheme value =
     place_value (origin_of (origin_text scheme authority)))
 
 abbrev pub route : List ℕ → Origin → KeyValue → List ℕ → RouteValue
-route prefix place key audience = record { prefix = prefix; place = place; key = key; audience = audience }
+route prefix place key audience =
+    record { prefix = prefix; place = place; key = key; audience = audience }
 
 abbrev pub prefix_of : Data → Result (List ℕ) ConfFault
 prefix_of = required member.Prefix (text_that is_prefix member.Prefix)

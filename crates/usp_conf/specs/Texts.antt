@@ -8,18 +8,20 @@ use Rattle.usp_package.specs.Name.{is_attr_name}
 use Rattle.usp_conf.specs.Answers.{and_then}
 use Rattle.usp_conf.specs.Letters.{is_scheme}
 use Rattle.usp_conf.specs.Members.{name_of}
-use Rattle.usp_conf.specs.declared.limits.TheConstants.{MAX_ROOM}
+use Rattle.usp_nonce.specs.declared.limits.TheConstants.{MAX_ROOM}
 use Rattle.usp_conf.specs.declared.fault.ConfFault.{ConfFault}
 use Rattle.usp_conf.specs.declared.fault.ConfFault.TheVariants as fault
 use Rattle.usp_conf.specs.declared.member.Member.{Member}
 use Rattle.usp_conf.specs.declared.member.Member.TheVariants as member
 
 -- a member that must be there
-abbrev pub required : {A : Type 0} → Member → (Data → Result A ConfFault) → Data → Result A ConfFault
+abbrev pub required : {A : Type 0} → Member → (Data → Result A ConfFault) → Data
+    → Result A ConfFault
 required of read fields = option_map_or read (get (name_of of) fields) (Err (fault.Missing of))
 
 -- a member that may be absent
-abbrev pub optional : {A : Type 0} → Member → A → (Data → Result A ConfFault) → Data → Result A ConfFault
+abbrev pub optional : {A : Type 0} → Member → A → (Data → Result A ConfFault) → Data
+    → Result A ConfFault
 optional of without read fields = option_map_or read (get (name_of of) fields) (Ok without)
 
 -- a text
@@ -56,7 +58,8 @@ within of least most (unsigned n) = tested of (nat_le least n && nat_le n most) 
 within of least most other = Err (fault.Range of)
 
 abbrev pub number_of : Member → ℕ → ℕ → Data → Result ℕ ConfFault
-number_of of least most value = option_map_or (within of least most) (as_number value) (Err (fault.Kind of))
+number_of of least most value =
+    option_map_or (within of least most) (as_number value) (Err (fault.Kind of))
 
 abbrev pub room_of : Data → Result ℕ ConfFault
 room_of = optional member.Room MAX_ROOM (number_of member.Room 1 MAX_ROOM)
@@ -64,7 +67,8 @@ room_of = optional member.Room MAX_ROOM (number_of member.Room 1 MAX_ROOM)
 -- enforcement can't be turned off
 abbrev pub enforce_value : Data → Result Bool ConfFault
 enforce_value value =
-    option_map_or (λ on. tested member.Enforce on true) (as_bool value) (Err (fault.Kind member.Enforce))
+    option_map_or (λ on. tested member.Enforce on true) (as_bool value)
+    (Err (fault.Kind member.Enforce))
 
 abbrev pub enforce_of : Data → Result Bool ConfFault
 enforce_of = optional member.Enforce true enforce_value

@@ -3,7 +3,7 @@ use Rattle.std.specs.Prelude.{◌≡◌, ℕ, ◌≤◌, true, List}
 use Rattle.usp_issue.specs.Sites.{SiteValue}
 use Rattle.usp_jws.specs.Letters.{is_identity}
 use Rattle.usp_conf.specs.Letters.{is_scheme}
-use Rattle.usp_conf.specs.declared.limits.TheConstants.{MAX_ROOM}
+use Rattle.usp_nonce.specs.declared.limits.TheConstants.{MAX_ROOM}
 
 -- a configuration by the edge's name, its scheme, the room of its nonce table and its site
 pub record ConfValue : Type 0 where

@@ -6,7 +6,7 @@ ghost use Rattle.serde_json.specs.View.{view, items_view};
 ghost use Rattle.usp_conf.specs.Answers.{Gives};
 ghost use Rattle.usp_conf.specs.Claims.{has_row, is_free, claim_of, kind_named, kind_value, kind_of, test_of, nothing_of, words_of, texts_of, several_of, most_of, setting_value, setting_of, extension_in, distinct_extensions, extensions_value, extensions_of};
 
-use crate::lists::{Element, Listed, rows_of};
+use crate::lists::{Element, Listed, need_object, rows_of};
 use crate::texts::{number_of, optional, required, tested, text_of};
 use crate::{ConfFault, MAX_EXTENSIONS, Member};
 use serde_json::Value;
@@ -163,9 +163,7 @@ impl Element for Extension {
     ghost element_of = { λ list. object_of list extension_in };
 
     fn read(alloc: Global, list: Member, value: &Value) -> Result<Extension, ConfFault> {
-        if !value.is_object() {
-            return Err(ConfFault::Kind { member: list });
-        }
+        need_object(list, value)?;
         extension_in(alloc, value)
     }
 }

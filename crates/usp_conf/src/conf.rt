@@ -3,7 +3,7 @@ ghost use Rattle.std.specs.Prelude.{◌≡◌, ◌≤◌, true};
 ghost use Rattle.usp_jws.specs.Letters.{is_identity};
 ghost use Rattle.usp_conf.specs.Letters.{is_scheme};
 ghost use Rattle.usp_conf.specs.Values.{conf};
-ghost use Rattle.usp_conf.specs.declared.limits.TheConstants.{MAX_ROOM};
+ghost use Rattle.usp_nonce.specs.declared.limits.TheConstants.{MAX_ROOM};
 
 use std::marker::Model;
 use usp_issue::Site;

@@ -7,7 +7,7 @@ use std::alloc::{AllocError, AllocFailed};
 use std::error::Error;
 use std::fmt;
 use usp_json::Text;
-use usp_jws::MIN_SECRET;
+use usp_jws::{MAX_SECRET, MIN_SECRET};
 
 /// Why a text is no configuration. The first row that fails is named.
 #[derive(Debug, Drop)]
@@ -37,19 +37,33 @@ impl ConfFault {
     }
 }
 
+// What must stand at a member, with how much of it.
+#[derive(Drop)]
+struct Form(Member);
+
+impl fmt::Display for Form {
+    fn fmt<W: fmt::Write>(&self, f: &mut fmt::Formatter<W>) -> fmt::Result {
+        let text = self.0.wanted();
+        match self.0 {
+            Member::Secret => write!(f, "{text}, {MIN_SECRET} to {MAX_SECRET} of them"),
+            _ => write!(f, "{text}"),
+        }
+    }
+}
+
 impl fmt::Display for ConfFault {
     fn fmt<W: fmt::Write>(&self, f: &mut fmt::Formatter<W>) -> fmt::Result {
         match self {
             ConfFault::Json => write!(f, "the configuration must be JSON, in UTF-8"),
             ConfFault::Missing { member } => {
-                write!(f, "`{}` must be there: {}", member.name(), member.wanted())
+                write!(f, "`{}` must be there: {}", member.name(), Form(*member))
             }
             ConfFault::Kind { member } => {
                 write!(
                     f,
                     "`{}` is of another kind: write {}",
                     member.name(),
-                    member.wanted()
+                    Form(*member)
                 )
             }
             ConfFault::Range { member } => {
@@ -57,7 +71,7 @@ impl fmt::Display for ConfFault {
                     f,
                     "`{}` is out of its range: write {}",
                     member.name(),
-                    member.wanted()
+                    Form(*member)
                 )
             }
             ConfFault::ShortKey { kid } => write!(

@@ -12,7 +12,7 @@ ghost use Rattle.usp_conf.specs.Keys.{secret_of_length, secret_bytes, secret_val
 ghost use Rattle.usp_conf.specs.declared.fault.ConfFault.TheVariants as fault;
 ghost use Rattle.usp_jws.specs.declared.limits.TheConstants.{MAX_KEYS, MAX_SECRET, MIN_SECRET};
 
-use crate::lists::{Element, Listed, rows_of};
+use crate::lists::{Element, Listed, need_object, rows_of};
 use crate::texts::{identity_of, required, tested, text_of};
 use crate::{ConfFault, Member};
 use serde_json::Value;
@@ -26,7 +26,8 @@ use usp_jws::{
 // A secret that is long enough (RFC 7518 section 3.2), and not too long.
 fn secret_of_length(alloc: Global, kid: &Text, bytes: Octets) -> Result<Octets, ConfFault>
     ensures read { Gives result (secret_of_length kid.now bytes) }
-    ensures bounds { IfOk result (λ secret. (MIN_SECRET ≤ length secret) × (length secret ≤ MAX_SECRET)) }
+    ensures bounds { IfOk result (λ secret.
+        (MIN_SECRET ≤ length secret) × (length secret ≤ MAX_SECRET)) }
 {
     let count = bytes.bytes().len();
     if count < MIN_SECRET {
@@ -39,7 +40,8 @@ fn secret_of_length(alloc: Global, kid: &Text, bytes: Octets) -> Result<Octets, 
 
 fn secret_bytes(alloc: Global, kid: &Text, bytes: Option<Octets>) -> Result<Octets, ConfFault>
     ensures read { Gives result (secret_bytes kid.now bytes) }
-    ensures bounds { IfOk result (λ secret. (MIN_SECRET ≤ length secret) × (length secret ≤ MAX_SECRET)) }
+    ensures bounds { IfOk result (λ secret.
+        (MIN_SECRET ≤ length secret) × (length secret ≤ MAX_SECRET)) }
 {
     match bytes {
         None => Err(ConfFault::Range {
@@ -51,7 +53,8 @@ fn secret_bytes(alloc: Global, kid: &Text, bytes: Option<Octets>) -> Result<Octe
 
 fn secret_value(alloc: Global, kid: &Text, value: &Value) -> Result<Octets, ConfFault>
     ensures read { Gives result (secret_value kid.now (view value.now)) }
-    ensures bounds { IfOk result (λ secret. (MIN_SECRET ≤ length secret) × (length secret ≤ MAX_SECRET)) }
+    ensures bounds { IfOk result (λ secret.
+        (MIN_SECRET ≤ length secret) × (length secret ≤ MAX_SECRET)) }
 {
     let text = text_of(alloc, Member::Secret, value)?;
     let bytes = decode_base64url(alloc, text.text().as_bytes())?;
@@ -60,7 +63,8 @@ fn secret_value(alloc: Global, kid: &Text, value: &Value) -> Result<Octets, Conf
 
 fn secret_of(alloc: Global, kid: &Text, object: &Value) -> Result<Octets, ConfFault>
     ensures read { Gives result (secret_of kid.now (view object.now)) }
-    ensures bounds { IfOk result (λ secret. (MIN_SECRET ≤ length secret) × (length secret ≤ MAX_SECRET)) }
+    ensures bounds { IfOk result (λ secret.
+        (MIN_SECRET ≤ length secret) × (length secret ≤ MAX_SECRET)) }
 {
     secret_value(alloc, kid, required(object, Member::Secret)?)
 }
@@ -115,9 +119,7 @@ impl Element for Key {
     ghost element_of = { λ list. object_of list key_in };
 
     fn read(alloc: Global, list: Member, value: &Value) -> Result<Key, ConfFault> {
-        if !value.is_object() {
-            return Err(ConfFault::Kind { member: list });
-        }
+        need_object(list, value)?;
         key_in(alloc, value)
     }
 }

@@ -8,7 +8,8 @@ ghost use Rattle.usp_conf.specs.Readings.{Configures, RefusesConf};
 ghost use Rattle.usp_conf.specs.Values.{ConfValue};
 ghost use Rattle.usp_conf.specs.declared.fault.ConfFault.{ConfFault};
 ghost use Rattle.usp_conf.specs.declared.fault.ConfFault.TheVariants.{NoMemory};
-ghost use Rattle.usp_conf.specs.declared.limits.TheConstants.{MAX_EXTENSIONS, MAX_IDENTITIES, MAX_PREFIX, MAX_ROOM};
+ghost use Rattle.usp_conf.specs.declared.limits.TheConstants.{MAX_EXTENSIONS, MAX_IDENTITIES, MAX_PREFIX};
+ghost use Rattle.usp_nonce.specs.declared.limits.TheConstants.{MAX_ROOM};
 
 /// Which number each limit is.
 pub fn limits_are_told()

@@ -20,6 +20,7 @@ pub use fault::ConfFault;
 pub use laws::{
     configures_once, configures_what_signing_needs, limits_are_told, refused_are_no_configurations,
 };
-pub use limits::{MAX_EXTENSIONS, MAX_IDENTITIES, MAX_PREFIX, MAX_ROOM};
+pub use limits::{MAX_EXTENSIONS, MAX_IDENTITIES, MAX_PREFIX};
 pub use member::Member;
 pub use reading::read_conf;
+pub use usp_nonce::MAX_ROOM;

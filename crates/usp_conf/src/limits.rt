@@ -1,5 +1,5 @@
 //! The limits of a configuration, beside those of keys in `usp_jws`, of routes in `usp_issue`, of numbers in
-//! `usp_claims` and of the attribute's name in `usp_package`.
+//! `usp_claims`, of the attribute's name in `usp_package` and of nonces in `usp_nonce`.
 
 /// The most issuers that are accepted, and the most identities of an edge. Of this project.
 pub const MAX_IDENTITIES: usize = 64;
@@ -9,6 +9,3 @@ pub const MAX_EXTENSIONS: usize = 32;
 
 /// The most bytes of a route's prefix. Of this project.
 pub const MAX_PREFIX: usize = 1_024;
-
-/// The most nonces that are held at a time, and how many are where nothing is said. Of this project.
-pub const MAX_ROOM: u32 = 65_536;

@@ -1,9 +1,12 @@
 //! Members that are lists.
-ghost use Rattle.std.specs.Prelude.{◌≡◌, ◌≤◌, true, length, [], IfOk};
+ghost use Rattle.std.specs.Prelude.{◌≡◌, ◌≤◌, true, false, length, [], IfOk, IfErr, OnOk};
+ghost use Rattle.std.specs.Option.{is_some};
+ghost use Rattle.serde_json.specs.Find.{as_object};
 ghost use Rattle.serde_json.specs.View.{view, items_view};
 ghost use Rattle.usp_conf.specs.Answers.{Gives};
 ghost use Rattle.usp_conf.specs.Lists.{each, has_length, rows_of, identities_of};
 ghost use Rattle.usp_conf.specs.Texts.{identity_of};
+ghost use Rattle.usp_conf.specs.declared.fault.ConfFault.TheVariants as fault;
 ghost use Rattle.usp_conf.specs.declared.limits.TheConstants.{MAX_IDENTITIES};
 
 use crate::texts::{identity_of, optional};
@@ -14,7 +17,7 @@ use std::marker::Model;
 use usp_base::Rows;
 use usp_json::Text;
 
-// The elements of a list, which contracts see as that list.
+// The elements of a list, which contracts see as that list. Unlike `usp_base::Rows` it can be taken apart.
 #[derive(Drop)]
 pub(crate) struct Listed<T> {
     rows: Vec<T>,
@@ -65,6 +68,19 @@ impl Element for Text {
 
     fn read(alloc: Global, list: Member, value: &Value) -> Result<Text, ConfFault> {
         identity_of(alloc, list, value)
+    }
+}
+
+// Refuses an element of a list that is no object.
+pub(crate) fn need_object(list: Member, value: &Value) -> Result<(), ConfFault>
+    ensures object { OnOk result (is_some (as_object (view value.now)) ≡ true) }
+    ensures other { IfErr result (λ e.
+        (is_some (as_object (view value.now)) ≡ false) × (e ≡ fault.Kind list)) }
+{
+    if value.is_object() {
+        Ok(())
+    } else {
+        Err(ConfFault::Kind { member: list })
     }
 }
 

@@ -69,7 +69,7 @@ impl Member {
             Member::Routes => "a list of objects, with a prefix, a place, a key and an audience",
             Member::Enforce => "true, or leave it out",
             Member::Kid => "a text of letters, digits, `-`, `.` and `_`",
-            Member::Secret => "the base64url, without padding, of 32 to 64 random bytes",
+            Member::Secret => "the base64url, without padding, of random bytes",
             Member::Claim => "the name of a claim that has no meaning of its own",
             Member::Test => "any, equals, one_of, at_most or path_prefix",
             Member::Setting => "what the test compares with, of the kind that the test has",

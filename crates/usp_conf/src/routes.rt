@@ -10,7 +10,7 @@ ghost use Rattle.usp_issue.specs.declared.limits.TheConstants.{MAX_ROUTES};
 ghost use Rattle.usp_conf.specs.declared.limits.TheConstants.{MAX_PREFIX};
 
 use crate::keys::key_in;
-use crate::lists::{Element, rows_of};
+use crate::lists::{Element, need_object, rows_of};
 use crate::texts::{identity_of, optional, required, tested, text_of};
 use crate::{ConfFault, MAX_PREFIX, Member};
 use serde_json::Value;
@@ -116,9 +116,7 @@ impl Element for Route {
     ghost element_of = { λ list. object_of list route_in };
 
     fn read(alloc: Global, list: Member, value: &Value) -> Result<Route, ConfFault> {
-        if !value.is_object() {
-            return Err(ConfFault::Kind { member: list });
-        }
+        need_object(list, value)?;
         route_in(alloc, value)
     }
 }

@@ -97,7 +97,7 @@ fn a_text_that_is_no_json_has_no_row(rt: HostRuntime) -> Result<(), Fail> {
 #[test]
 fn a_fault_says_what_to_mend(rt: HostRuntime) -> Result<(), Fail> {
     let alloc = rt.alloc();
-    let rows: [(&[u8], &[u8], &str); 5] = [
+    let rows: [(&[u8], &[u8], &str); 6] = [
         (
             b"edge",
             b"",
@@ -117,6 +117,11 @@ fn a_fault_says_what_to_mend(rt: HostRuntime) -> Result<(), Fail> {
             b"keys",
             b"\"keys\":[{\"kid\":\"k1\",\"issuer\":\"cp\",\"secret\":\"AQ\"}]",
             "the key `k1` needs a secret of at least 32 random bytes",
+        ),
+        (
+            b"secret",
+            b"\"keys\":[{\"kid\":\"k1\",\"issuer\":\"cp\",\"secret\":\"A\"}]",
+            "`secret` is out of its range: write the base64url, without padding, of random bytes, 32 to 64 of them",
         ),
         (b"json", b"x", "the configuration must be JSON, in UTF-8"),
     ];

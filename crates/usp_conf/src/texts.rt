@@ -9,13 +9,14 @@ ghost use Rattle.usp_conf.specs.Letters.{is_scheme};
 ghost use Rattle.usp_conf.specs.Members.{name_of};
 ghost use Rattle.usp_conf.specs.Texts.{text_of, identity_of, edge_of, scheme_of, attribute_of, attribute_value, number_of, room_of, enforce_value, enforce_of};
 ghost use Rattle.usp_conf.specs.declared.fault.ConfFault.TheVariants as fault;
-ghost use Rattle.usp_conf.specs.declared.limits.TheConstants.{MAX_ROOM};
+ghost use Rattle.usp_nonce.specs.declared.limits.TheConstants.{MAX_ROOM};
 
-use crate::{ConfFault, MAX_ROOM, Member};
+use crate::{ConfFault, Member};
 use serde_json::Value;
 use std::alloc::Global;
 use usp_json::Text;
 use usp_jws::is_identity;
+use usp_nonce::MAX_ROOM;
 use usp_package::AttrName;
 
 // The name of the attribute where the configuration gives none (RFC 9246 section 4.4).

@@ -2,7 +2,7 @@
 use Rattle.std.proofs.Common.{IfOk, ◌≡◌, inl, inr, ℕ, true, false, ◌||◌, List, [], ◌∷◌, ◌++◌, Option, Some, None, Result, Ok, Err, slice_get, refl, sym, ap, ◌∙◌, subst}
 use Rattle.std.specs.Option.{is_some}
 use Rattle.std.specs.Result.{result_ok}
-use Rattle.std.proofs.lemmas.Option.{same_Some}
+use Rattle.std.proofs.lemmas.Option.{none-some, same_Some}
 use Rattle.usp_json.specs.declared.value.Members.{Members}
 use Rattle.usp_jws.specs.Compact.{IsToken}
 use Rattle.usp_jws.specs.Headers.{IsHeader}
@@ -23,9 +23,6 @@ use Rattle.usp_rules.specs.declared.profile.Profile.{Profile}
 use Rattle.usp_rules.specs.declared.rule.Rule.{Rule}
 use Rattle.usp_rules.specs.declared.rule.Rule.TheVariants as rule
 use Rattle.usp_rules.proofs.Single.{claims_at, header_at, one_claims, one_place, verified_at}
-
-some_rule : {r : Rule} → Some r ≡ None → ⊥
-some_rule e = cc
 
 -- rules that say the same have the same first one that fails
 first_same : (P Q : Rule → Type 0) → ((r : Rule) → P r → Q r) → ((r : Rule) → Q r → P r) → (rules : List Rule) (found : Option Rule)
@@ -176,15 +173,15 @@ contained_somewhere content members h none = let both : None ≡ Some h.uri = sy
 -- where no rule fails there is a content
 last_wants : (P : Rule → Type 0) → IsFirst P constraints None → P rule.Container
 last_wants P (inl (a, inl (b, inl (c, inl (d, inl (e, inl (f, inl (g, inl (h, inl (i, j)))))))))) = i
-last_wants P (inl (a, inl (b, inl (c, inl (d, inl (e, inl (f, inl (g, inl (h, inr i))))))))) = absurd (some_rule (sym i.1))
-last_wants P (inl (a, inl (b, inl (c, inl (d, inl (e, inl (f, inl (g, inr i)))))))) = absurd (some_rule (sym i.1))
-last_wants P (inl (a, inl (b, inl (c, inl (d, inl (e, inl (f, inr i))))))) = absurd (some_rule (sym i.1))
-last_wants P (inl (a, inl (b, inl (c, inl (d, inl (e, inr i)))))) = absurd (some_rule (sym i.1))
-last_wants P (inl (a, inl (b, inl (c, inl (d, inr i))))) = absurd (some_rule (sym i.1))
-last_wants P (inl (a, inl (b, inl (c, inr i)))) = absurd (some_rule (sym i.1))
-last_wants P (inl (a, inl (b, inr i))) = absurd (some_rule (sym i.1))
-last_wants P (inl (a, inr i)) = absurd (some_rule (sym i.1))
-last_wants P (inr i) = absurd (some_rule (sym i.1))
+last_wants P (inl (a, inl (b, inl (c, inl (d, inl (e, inl (f, inl (g, inl (h, inr i))))))))) = absurd (none-some _ i.1)
+last_wants P (inl (a, inl (b, inl (c, inl (d, inl (e, inl (f, inl (g, inr i)))))))) = absurd (none-some _ i.1)
+last_wants P (inl (a, inl (b, inl (c, inl (d, inl (e, inl (f, inr i))))))) = absurd (none-some _ i.1)
+last_wants P (inl (a, inl (b, inl (c, inl (d, inl (e, inr i)))))) = absurd (none-some _ i.1)
+last_wants P (inl (a, inl (b, inl (c, inl (d, inr i))))) = absurd (none-some _ i.1)
+last_wants P (inl (a, inl (b, inl (c, inr i)))) = absurd (none-some _ i.1)
+last_wants P (inl (a, inl (b, inr i))) = absurd (none-some _ i.1)
+last_wants P (inl (a, inr i)) = absurd (none-some _ i.1)
+last_wants P (inr i) = absurd (none-some _ i.1)
 
 pub content_there : (profile : Profile) (issuer : List ℕ) (members : Members) (of : Option (List ℕ)) (moment : ℕ) (found : Option Rule) → found ≡ None → of ≡ None
     → IsFirst (λ r. Wants r profile issuer members of moment) constraints found → ⊥

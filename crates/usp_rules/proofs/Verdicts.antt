@@ -1,7 +1,7 @@
 -- One first rule that fails, one verdict, and what passing says.
 use Rattle.std.proofs.Common.{◌≡◌, inl, inr, ℕ, true, ◌||◌, List, [], ◌∷◌, ◌++◌, Option, Some, None, Ok, refl, sym, ap, ◌∙◌, subst}
 use Rattle.std.specs.Option.{is_some, option_map}
-use Rattle.std.proofs.lemmas.Option.{same_Some}
+use Rattle.std.proofs.lemmas.Option.{none-some, same_Some}
 use Rattle.usp_json.specs.declared.value.Members.{Members}
 use Rattle.usp_package.specs.Package.{Package, nothing, bad, carried, package_of}
 use Rattle.usp_uri.specs.Faults.{normal_of}
@@ -25,13 +25,10 @@ first_once P (r ∷ rs) a b (inl h) (inr k) = absurd (k.0 h.0)
 first_once P (r ∷ rs) a b (inr h) (inl k) = absurd (h.0 k.0)
 first_once P (r ∷ rs) a b (inr h) (inr k) = h.1 ∙ sym k.1
 
-none_is_no_rule : (r : Rule) → None ≡ Some r → ⊥
-none_is_no_rule r e = cc
-
 all_of_none : (P : Rule → Type 0) (rules : List Rule) → IsFirst P rules None → AllHold P rules
 all_of_none P [] h = tt
 all_of_none P (r ∷ rs) (inl h) = (h.0, all_of_none P rs h.1)
-all_of_none P (r ∷ rs) (inr h) = absurd (none_is_no_rule r h.1)
+all_of_none P (r ∷ rs) (inr h) = absurd (none-some r h.1)
 
 pub none_of_all : (P : Rule → Type 0) (rules : List Rule) → AllHold P rules → IsFirst P rules None
 none_of_all P [] h = refl
@@ -45,7 +42,7 @@ breaks_later P r broken rs holds b =
     record { before = r ∷ b.before; after = b.after; listed = ap (λ x. r ∷ x) b.listed; hold = (holds, b.hold); fails = b.fails }
 
 none_listed : (P : Rule → Type 0) (broken : Rule) → IsFirst P [] (Some broken) → Breaks P [] broken
-none_listed P broken h = absurd (none_is_no_rule broken (sym h))
+none_listed P broken h = absurd (none-some broken (sym h))
 
 pub breaks : (P : Rule → Type 0) (rules : List Rule) (broken : Rule) → IsFirst P rules (Some broken) → Breaks P rules broken
 breaks P [] broken h = none_listed P broken h
@@ -80,9 +77,9 @@ pub one_verdict : (profile : Profile) (ask : AskValue) (a b : Judged) → Judges
 one_verdict profile ask (Denied r) (Denied s) h k =
     ap Denied (same_Some r s (first_once (λ x. Holds x profile ask) rules_of_ask (Some r) (Some s) h k))
 one_verdict profile ask (Denied r) (Passed d u n j) h k =
-    absurd (none_is_no_rule r (first_once (λ x. Holds x profile ask) rules_of_ask None (Some r) k.0 h))
+    absurd (none-some r (first_once (λ x. Holds x profile ask) rules_of_ask None (Some r) k.0 h))
 one_verdict profile ask (Passed c t m i) (Denied s) h k =
-    absurd (none_is_no_rule s (first_once (λ x. Holds x profile ask) rules_of_ask None (Some s) h.0 k))
+    absurd (none-some s (first_once (λ x. Holds x profile ask) rules_of_ask None (Some s) h.0 k))
 one_verdict profile ask (Passed c t m i) (Passed d u n j) h k =
     one_passed profile ask (package_of profile.attribute ask.uri) c d t u m n i j h.1 k.1
 
@@ -102,11 +99,8 @@ presents_valid profile ask h = valid_of profile ask (presented profile.attribute
 pub passes : (profile : Profile) (ask : AskValue) → First profile ask None → AllHold (λ r. Holds r profile ask) rules_of_ask
 passes profile ask h = all_of_none (λ r. Holds r profile ask) rules_of_ask h
 
-no_token : (f : List ℕ → Presented) (shown : Presented) → option_map f None ≡ Some shown → ⊥
-no_token f shown e = let both : None ≡ Some shown = e in cc
-
 cookie_there : (f : List ℕ → Presented) (cookie : Option (List ℕ)) (shown : Presented) → option_map f cookie ≡ Some shown → is_some cookie ≡ true
-cookie_there f None shown e = absurd (no_token f shown e)
+cookie_there f None shown e = absurd (none-some shown e)
 cookie_there f (Some token) shown e = refl
 
 brings : (ask : AskValue) (pack : Package) (shown : Presented) → presented_in ask pack ≡ Some shown → (has_package pack || is_some ask.cookie) ≡ true

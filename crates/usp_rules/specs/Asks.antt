@@ -35,7 +35,8 @@ pub record Presented : Type 0 where
 
 abbrev pub presented_in : AskValue → Package → Option Presented
 presented_in ask pack =
-    option_map (λ token. record { token = token; content = content_in ask.uri pack; moment = ask.moment })
+    option_map
+    (λ token. record { token = token; content = content_in ask.uri pack; moment = ask.moment })
     (token_in pack ask.cookie)
 
 -- what an ask presents, where the package is sought under this name

@@ -14,7 +14,8 @@ use Rattle.usp_uri.specs.Components.{path_in}
 
 -- Version: `cdniv` is 1
 abbrev pub is_version_1 : Members → Bool
-is_version_1 members = option_map_or (λ version. version == 1) (number_claim (codes "cdniv") members) true
+is_version_1 members =
+    option_map_or (λ version. version == 1) (number_claim (codes "cdniv") members) true
 
 -- the content's path, empty where there is no content
 abbrev pub path_of : Option (List ℕ) → List ℕ
@@ -28,7 +29,8 @@ is_critical_met extensions content members =
 
 -- Encrypted: neither `sub` nor `cdniip` is there, since both are encrypted
 abbrev pub is_plain : Members → Bool
-is_plain members = not (is_some (claim (codes "sub") members) || is_some (claim (codes "cdniip") members))
+is_plain members =
+    not (is_some (claim (codes "sub") members) || is_some (claim (codes "cdniip") members))
 
 -- Issuer: `iss` is one of the issuers, and the issuer of the key that verifies
 abbrev pub is_issued : List (List ℕ) → List ℕ → Members → Bool
@@ -44,7 +46,8 @@ is_for audience members =
 
 -- NotBefore: the moment has reached `nbf`
 abbrev pub is_begun : ℕ → Members → Bool
-is_begun moment members = option_map_or (λ nbf. nat_le nbf moment) (number_claim (codes "nbf") members) true
+is_begun moment members =
+    option_map_or (λ nbf. nat_le nbf moment) (number_claim (codes "nbf") members) true
 
 -- Expired: the moment has not reached `exp`
 abbrev pub is_unexpired : ℕ → Members → Bool

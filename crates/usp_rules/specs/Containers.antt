@@ -11,7 +11,8 @@ MeetsHash container uri = container ≡ codes "hash:" ++ segment_of uri
 -- The container is `regex:` and an expression that finds some part of the URI.
 abbrev pub MeetsRegex : List ℕ → List ℕ → Type 0
 MeetsRegex container uri =
-    (text : List ℕ) × (e : Expr) × (container ≡ codes "regex:" ++ text) × Compiles text e × Finds e uri
+    (text : List ℕ) × (e : Expr) × (container ≡ codes "regex:" ++ text) × Compiles text e
+    × Finds e uri
 
 -- the container meets the URI
 abbrev pub Meets : List ℕ → List ℕ → Type 0

@@ -41,4 +41,5 @@ is_understood extensions path members names name =
 
 -- each name of the list is understood
 abbrev pub are_understood : List Extension → List ℕ → Members → List (List ℕ) → Bool
-are_understood extensions path members names = list_all (is_understood extensions path members names) names
+are_understood extensions path members names =
+    list_all (is_understood extensions path members names) names

@@ -12,8 +12,8 @@ use Rattle.usp_rules.specs.declared.rule.Rule.{Rule}
 
 -- What is told of a token that passes: itself, its content, its claims, and the place of the key that
 -- verifies it.
-pub record Tells (profile : Profile) (shown : Presented) (content token : List ℕ) (members : Members)
-    (place : ℕ) : Type 0 where
+pub record Tells (profile : Profile) (shown : Presented) (content token : List ℕ)
+    (members : Members) (place : ℕ) : Type 0 where
   pub uri : shown.content ≡ Some content
   pub text : shown.token ≡ token
   pub claims : Claims shown.token members
@@ -51,7 +51,8 @@ JudgesWith profile ask pack (Passed content token members place) =
 
 -- the same of a token, by rules 3 to 15 or 4 to 15
 abbrev pub JudgesBy : List Rule → Profile → Presented → Judged → Type 0
-JudgesBy rules profile shown (Denied rule) = IsFirst (λ rule. TokenHolds rule profile shown) rules (Some rule)
+JudgesBy rules profile shown (Denied rule) =
+    IsFirst (λ rule. TokenHolds rule profile shown) rules (Some rule)
 JudgesBy rules profile shown (Passed content token members place) =
     IsFirst (λ rule. TokenHolds rule profile shown) rules None
     × Tells profile shown content token members place

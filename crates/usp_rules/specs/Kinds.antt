@@ -9,16 +9,18 @@ use Rattle.usp_rules.specs.declared.container.Container.TheVariants.{Hash, Regex
 
 -- The text is `hash:` and a segment, or `regex:` and an expression, or refused, which meets nothing.
 abbrev pub ReadsAs : List ℕ → Container → Type 0
-ReadsAs text (Hash segment) = text ≡ codes "hash:" ++ segment
+ReadsAs text (Hash segment) = text ≡ codes "hash:" ++ segment.now
 ReadsAs text (Regex ere) =
-    (expression : List ℕ) × (text ≡ codes "regex:" ++ expression) × Compiles expression (expression_of ere)
+    (expression : List ℕ) × (text ≡ codes "regex:" ++ expression)
+    × Compiles expression (expression_of ere)
 ReadsAs text Refused =
     ((segment : List ℕ) → text ≡ codes "hash:" ++ segment → ⊥)
-    × ((expression : List ℕ) (e : Expr) → text ≡ codes "regex:" ++ expression → Compiles expression e → ⊥)
+    × ((expression : List ℕ) (e : Expr) → text ≡ codes "regex:" ++ expression
+    → Compiles expression e → ⊥)
 
 -- The URI is met by what a container text is read as.
 abbrev pub MeetsAs : Container → List ℕ → Type 0
-MeetsAs (Hash segment) uri = segment ≡ segment_of uri
+MeetsAs (Hash segment) uri = segment.now ≡ segment_of uri
 MeetsAs (Regex ere) uri = Finds (expression_of ere) uri
 MeetsAs Refused uri = ⊥
 

@@ -15,31 +15,32 @@ use Rattle.usp_rules.specs.declared.rule.Rule.TheVariants as rule
 
 -- Of the rules, in this order, the first that does not hold. None where each holds.
 abbrev pub IsFirst : (Rule → Type 0) → List Rule → Option Rule → Type 0
-IsFirst Holds [] found = found ≡ None
-IsFirst Holds (rule ∷ rules) found =
-    (Holds rule × IsFirst Holds rules found) ⊎ ((Holds rule → ⊥) × (found ≡ Some rule))
+IsFirst Passes [] found = found ≡ None
+IsFirst Passes (rule ∷ rules) found =
+    (Passes rule × IsFirst Passes rules found) ⊎ ((Passes rule → ⊥) × (found ≡ Some rule))
 
 abbrev pub AllHold : (Rule → Type 0) → List Rule → Type 0
-AllHold Holds [] = Unit {0}
-AllHold Holds (rule ∷ rules) = Holds rule × AllHold Holds rules
+AllHold Passes [] = Unit {0}
+AllHold Passes (rule ∷ rules) = Passes rule × AllHold Passes rules
 
 -- The rule is listed and does not hold, and each rule listed before it does.
-pub record Breaks (Holds : Rule → Type 0) (rules : List Rule) (broken : Rule) : Type 0 where
+pub record Breaks (Passes : Rule → Type 0) (rules : List Rule) (broken : Rule) : Type 0 where
   pub before : List Rule
   pub after : List Rule
   pub listed : rules ≡ before ++ broken ∷ after
-  pub hold : AllHold Holds before
-  pub fails : Holds broken → ⊥
+  pub hold : AllHold Passes before
+  pub fails : Passes broken → ⊥
 
 -- What a rule from Version to Container wants of claims, where the key that verifies has this issuer. No
 -- other rule is one of claims, so none has what it wants.
-abbrev pub Wants : Rule → Profile → (issuer : List ℕ) → Members → (content : Option (List ℕ)) → (moment : ℕ)
-    → Type 0
+abbrev pub Wants : Rule → Profile → (issuer : List ℕ) → Members → (content : Option (List ℕ))
+    → (moment : ℕ) → Type 0
 Wants rule.Version profile issuer members content moment = is_version_1 members ≡ true
 Wants rule.Critical profile issuer members content moment =
     is_critical_met profile.extensions content members ≡ true
 Wants rule.Encrypted profile issuer members content moment = is_plain members ≡ true
-Wants rule.Issuer profile issuer members content moment = is_issued profile.issuers issuer members ≡ true
+Wants rule.Issuer profile issuer members content moment =
+    is_issued profile.issuers issuer members ≡ true
 Wants rule.Audience profile issuer members content moment = is_for profile.audience members ≡ true
 Wants rule.NotBefore profile issuer members content moment = is_begun moment members ≡ true
 Wants rule.Expired profile issuer members content moment = is_unexpired moment members ≡ true
@@ -104,4 +105,5 @@ First profile ask found = IsFirst (λ rule. Holds rule profile ask) rules_of_ask
 
 -- The text is a token, and rules 4 to 15 hold of it, that content and that moment.
 abbrev pub Valid : Profile → Presented → Type 0
-Valid profile shown = IsToken shown.token × AllHold (λ rule. TokenHolds rule profile shown) rules_of_parts
+Valid profile shown =
+    IsToken shown.token × AllHold (λ rule. TokenHolds rule profile shown) rules_of_parts

@@ -21,7 +21,11 @@ impl<'a> Model for Ask<'a> {
 
     ghost Value = { AskValue };
 
-    ghost view = { λ a. record { uri = a.uri.now; cookie = option_copied a.cookie; moment = a.moment } };
+    ghost view = { λ a. record {
+      uri = a.uri.now;
+      cookie = option_copied a.cookie;
+      moment = a.moment;
+    } };
 
     ghost invariant = { λ a. a.moment < MOMENT_BOUND };
 }

@@ -36,7 +36,8 @@ fn judge_claims<'a>(
     requires verified { IsVerified terms.now.profile.now.ring (text_of parts.now) place }
     requires within { place < length terms.now.profile.now.ring }
     ensures { IfOk result (λ judged. JudgesBy constraints terms.now.profile.now
-        (record { token = text_of parts.now; content = content; moment = terms.now.moment }) judged) }
+        (record { token = text_of parts.now; content = content; moment = terms.now.moment })
+        judged) }
 {
     let issuer = terms.profile.ring.keys()[place].issuer();
     if let Some(rule) = first_failing(terms, issuer, &claims, content.as_ref())? {
@@ -62,7 +63,8 @@ fn judge_parts<'a>(
     requires bound { terms.now.moment < MOMENT_BOUND }
     requires token { IsToken (text_of token.now.parts) }
     ensures { IfOk result (λ judged. JudgesBy rules_of_parts terms.now.profile.now
-        (record { token = text_of token.now.parts; content = content; moment = terms.now.moment }) judged) }
+        (record { token = text_of token.now.parts; content = content; moment = terms.now.moment })
+        judged) }
 {
     let Some(header) = header_in(terms.alloc, token)? else {
         return Ok(Judged::Denied(Rule::Header));

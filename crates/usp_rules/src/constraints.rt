@@ -78,7 +78,8 @@ fn is_issued(issuers: &Rows<Text>, issuer: &[u8], claims: &Claims) -> bool
 
 // Whether the audience is this identity, or lists it.
 fn has_audience(claims: &Claims, identity: &Text) -> bool
-    ensures { result ≡ option_map_or (is_audience identity.now) (claim (codes "aud") claims.now) false }
+    ensures { result
+        ≡ option_map_or (is_audience identity.now) (claim (codes "aud") claims.now) false }
 {
     claims.aud_has(identity.text().as_bytes()).unwrap_or(false)
 }
@@ -86,7 +87,8 @@ fn has_audience(claims: &Claims, identity: &Text) -> bool
 // Whether the audience is one of these identities, or lists one.
 fn has_one(audience: &Rows<Text>, claims: &Claims) -> bool
     ensures { result ≡ list_any
-        (λ identity. option_map_or (is_audience identity) (claim (codes "aud") claims.now) false) audience.now }
+        (λ identity. option_map_or (is_audience identity) (claim (codes "aud") claims.now) false)
+        audience.now }
 {
     audience
         .rows()
@@ -133,7 +135,8 @@ fn is_renewable(claims: &Claims) -> bool
 
 /// Whether there is a content that the container meets.
 pub fn is_contained(alloc: Global, claims: &Claims, content: Option<&Uri>) -> Result<bool, NoMemory>
-    ensures { IfOk result (λ met. IsTrue met ↔ IsContained (option_copied content.entry) claims.now) }
+    ensures { IfOk result (λ met.
+        IsTrue met ↔ IsContained (option_copied content.entry) claims.now) }
 {
     let Some(content) = content else {
         return Ok(false);
@@ -152,8 +155,8 @@ pub fn first_failing(
 ) -> Result<Option<Rule>, NoMemory>
     requires { terms.now.moment < MOMENT_BOUND }
     ensures { IfOk result (λ found. IsFirst
-        (λ rule. Wants rule terms.now.profile.now issuer.now claims.now (option_copied content.entry)
-        terms.now.moment)
+        (λ rule. Wants rule terms.now.profile.now issuer.now claims.now
+        (option_copied content.entry) terms.now.moment)
         constraints found) }
 {
     if !is_version_1(claims) {

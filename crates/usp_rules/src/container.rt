@@ -11,15 +11,15 @@ use crate::segment::segment_of;
 use std::alloc::Global;
 use std::marker::Brand;
 use std::sync::ledger::{Blank, Ledger};
-use usp_base::{Octets, Steps, after_prefix};
+use usp_base::{Steps, after_prefix};
 use usp_ere::{Ere, compile, scratch};
 use usp_uri::Uri;
 
 /// Which contents a token is for, as its claim `cdniuc` says (RFC 9246 section 2.1.15).
 #[derive(Drop)]
-pub enum Container {
+pub enum Container<'a> {
     /// `hash:` and what follows it: the one content whose segment this is.
-    Hash(Octets),
+    Hash(&'a [u8]),
     /// `regex:` and an expression: the contents of which it finds some part.
     Regex(Ere),
     /// Neither, or an expression with a fault: no content.
@@ -64,13 +64,13 @@ fn of_expression(alloc: Global, text: &[u8]) -> Result<Option<Ere>, NoMemory>
     Ok(None)
 }
 
-impl Container {
+impl<'a> Container<'a> {
     /// What a container text is read as.
-    pub fn of(alloc: Global, text: &[u8]) -> Result<Container, NoMemory>
+    pub fn of(alloc: Global, text: &'a [u8]) -> Result<Container<'a>, NoMemory>
         ensures { IfOk result (λ container. ReadsAs text.now container) }
     {
         if let Some(segment) = after_prefix(text, b"hash:") {
-            return Ok(Container::Hash(Octets::of(segment.to_vec(alloc)?)));
+            return Ok(Container::Hash(segment));
         }
         let Some(expression) = after_prefix(text, b"regex:") else {
             return Ok(Container::Refused);
@@ -88,7 +88,7 @@ impl Container {
             → IfOk result (λ met. IsTrue met ↔ Meets text uri.now) }
     {
         match self {
-            Container::Hash(segment) => Ok(segment.bytes() == segment_of(uri.text()).as_slice()),
+            Container::Hash(segment) => Ok(*segment == segment_of(uri.text()).as_slice()),
             Container::Regex(ere) => finds(alloc, ere, uri.text()),
             Container::Refused => Ok(false),
         }

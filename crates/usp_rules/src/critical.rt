@@ -90,7 +90,8 @@ fn are_all_understood(critical: &Critical<'_>, parts: &[&[u8]]) -> bool
 /// Whether each name in the text of a `cdnicrit` is understood.
 pub fn are_understood(alloc: Global, critical: &Critical<'_>, text: &[u8]) -> Result<bool, NoMemory>
     requires { critical.now.facts.moment < MOMENT_BOUND }
-    ensures { IfOk result (λ met. met ≡ are_understood critical.now.extensions.now critical.now.facts.path.now
+    ensures { IfOk result (λ met. met
+        ≡ are_understood critical.now.extensions.now critical.now.facts.path.now
         critical.now.claims.now (names_in text.now)) }
 {
     let parts = parts_of(alloc, text)?;

@@ -29,7 +29,8 @@ pub fn names_the_first_that_fails()
     ensures order { map number_of rules_of_ask
         ≡ 1 ∷ 2 ∷ 3 ∷ 4 ∷ 5 ∷ 6 ∷ 7 ∷ 8 ∷ 9 ∷ 10 ∷ 11 ∷ 12 ∷ 13 ∷ 14 ∷ 15 ∷ [] }
     ensures first { (profile : Profile) (ask : AskValue) (broken : Rule)
-        → First profile ask (Some broken) ↔ Breaks (λ rule. Holds rule profile ask) rules_of_ask broken }
+        → First profile ask (Some broken)
+        ↔ Breaks (λ rule. Holds rule profile ask) rules_of_ask broken }
 {}
 
 /// No rule fails exactly where each holds, and that is where the URI has a normal form and what is
@@ -40,27 +41,32 @@ pub fn passes_what_is_valid()
     ensures normal { (profile : Profile) (ask : AskValue) → First profile ask None
         → (normal : List ℕ) × (normal_of ask.uri ≡ Ok normal) }
     ensures valid { (profile : Profile) (ask : AskValue) → First profile ask None
-        → (shown : Presented) × (presented profile.attribute ask ≡ Some shown) × Valid profile shown }
+        → (shown : Presented) × (presented profile.attribute ask ≡ Some shown)
+        × Valid profile shown }
     ensures passes { (profile : Profile) (ask : AskValue) (normal : List ℕ) (shown : Presented)
-        → normal_of ask.uri ≡ Ok normal → presented profile.attribute ask ≡ Some shown → Valid profile shown
-        → First profile ask None }
+        → normal_of ask.uri ≡ Ok normal → presented profile.attribute ask ≡ Some shown
+        → Valid profile shown → First profile ask None }
 {}
 
 /// What is told of an ask that passes: it brings the token, for the content, and the token is valid at its
 /// moment.
 pub fn admits_what_passes()
-    ensures { (profile : Profile) (ask : AskValue) (content token : List ℕ) (members : Members) (place : ℕ)
-        → Judges profile ask (Passed content token members place)
+    ensures { (profile : Profile) (ask : AskValue) (content token : List ℕ) (members : Members)
+        (place : ℕ) → Judges profile ask (Passed content token members place)
         → Admits profile ask content token members place }
 {}
 
 /// The rules before Package and behind Container hold of no token: they are none of a token alone.
 pub fn others_are_no_rules_of_tokens()
     ensures uri { (profile : Profile) (shown : Presented) → TokenHolds rule.Uri profile shown → ⊥ }
-    ensures missing { (profile : Profile) (shown : Presented) → TokenHolds rule.Missing profile shown → ⊥ }
-    ensures late { (profile : Profile) (shown : Presented) → TokenHolds rule.Late profile shown → ⊥ }
-    ensures seen { (profile : Profile) (shown : Presented) → TokenHolds rule.Seen profile shown → ⊥ }
-    ensures room { (profile : Profile) (shown : Presented) → TokenHolds rule.Room profile shown → ⊥ }
+    ensures missing { (profile : Profile) (shown : Presented)
+        → TokenHolds rule.Missing profile shown → ⊥ }
+    ensures late { (profile : Profile) (shown : Presented)
+        → TokenHolds rule.Late profile shown → ⊥ }
+    ensures seen { (profile : Profile) (shown : Presented)
+        → TokenHolds rule.Seen profile shown → ⊥ }
+    ensures room { (profile : Profile) (shown : Presented)
+        → TokenHolds rule.Room profile shown → ⊥ }
 {}
 
 /// A segment is ASCII, and as long as each other.

@@ -76,6 +76,11 @@ fn the_container_of_one_content(rt: HostRuntime) -> Result<(), Fail> {
         container.text(),
         "hash:sha-256;xT60M7lHtGBVCdlichUwoZuDeaxplJhq9F7WRq4UG3k"
     );
-    assert_eq!(rt; NoMemory.to_string(alloc)?.as_str(), "there was no memory");
+    assert!(rt;
+        NoMemory
+            .to_string(alloc)?
+            .as_str()
+            .contains("give the program more")
+    );
     Ok(())
 }

@@ -5,6 +5,7 @@ use Rattle.std.specs.List.{All}
 use Rattle.std.specs.Option.{is_some, option_map}
 use Rattle.usp_base.specs.declared.fault.Status.TheVariants.{Done, Denials, Refused}
 use Rattle.usp_claims.specs.declared.limits.TheConstants.{MAX_PAYLOAD}
+use Rattle.usp_base.proofs.Facts.{one_some}
 use Rattle.usp_conf.proofs.Refused as conf
 use Rattle.usp_conf.proofs.Sound as sound
 use Rattle.usp_conf.specs.Readings.{Configures}
@@ -14,7 +15,7 @@ use Rattle.usp_package.specs.Package.{package_of}
 use Rattle.usp_rules.specs.Asks.{content_in}
 use Rattle.usp_rules.specs.Rules.{AllHold, Holds}
 use Rattle.usp_tool.proofs.LawsLines.{all_judged, all_signed}
-use Rattle.usp_tool.proofs.LawsOnce.{lacks_none, named_not_memory, same_some}
+use Rattle.usp_tool.proofs.LawsOnce.{lacks_none, named_not_memory}
 use Rattle.usp_tool.proofs.LawsPassing as passing
 use Rattle.usp_tool.specs.Answers.{Answers, Works, WorksInput, no_conf, no_key, works}
 use Rattle.usp_tool.specs.Check.Line.{ask_of}
@@ -33,7 +34,7 @@ answered_work command text input value job o configures has (no_conf found h is)
     absurd (conf.refused found text value h (named_not_memory found is.0 is.1) configures)
 answered_work command text input value job o configures has (no_key v h lacks is) = absurd (lacks_none command text v value job h configures lacks has)
 answered_work command text input value job o configures has (works v j i h own e work) =
-    let same : j ≡ job = same_some (job_of command value) j job (ap (job_of command) (sym (conf.only text v value h configures)) ∙ own) has in
+    let same : j ≡ job = one_some (job_of command value) j job (ap (job_of command) (sym (conf.only text v value h configures)) ∙ own) has in
     subst (λ j. WorksInput j input o) same (subst (λ i. WorksInput j i o) (sym e) work)
 
 by_short : (b : Bool) (P Q : Type 0) → b ≡ false → MatchBool b P Q → Q

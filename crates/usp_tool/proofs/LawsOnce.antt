@@ -1,6 +1,7 @@
 -- An input has one outcome.
 use Rattle.std.proofs.Common.{◌≡◌, ◌⊎◌, inl, inr, ℕ, ◌+◌, max, Bool, true, false, codes, List, [], ◌∷◌, ◌++◌, Option, Some, None, Result, Ok, Err, refl, sym, ap, ◌∙◌, subst}
 use Rattle.std.specs.Prelude.{MatchBool}
+use Rattle.usp_base.proofs.Facts.{never_both, one_some, same_err, same_ok}
 use Rattle.usp_claims.specs.Table.{text_claim}
 use Rattle.usp_conf.proofs.Refused as conf
 use Rattle.usp_conf.specs.Conf.{conf_of}
@@ -36,18 +37,6 @@ use Rattle.usp_tool.specs.Words.{Command}
 use Rattle.usp_tool.specs.declared.check.verdict.Verdict.{Verdict}
 use Rattle.usp_tool.specs.declared.check.verdict.Verdict.TheVariants.{Admitted, Denied}
 use Rattle.usp_uri.specs.Faults.{normal_of}
-
-pub same_some : {A : Type 0} (o : Option A) (a b : A) → o ≡ Some a → o ≡ Some b → a ≡ b
-same_some o a b p q = let both : Some a ≡ Some b = sym p ∙ q in cc
-
-pub none_some : {A : Type 0} (o : Option A) (a : A) → o ≡ None → o ≡ Some a → ⊥
-none_some o a p q = let both : None ≡ Some a = sym p ∙ q in cc
-
-same_ok : {A E : Type 0} (r : Result A E) (a b : A) → r ≡ Ok a → r ≡ Ok b → a ≡ b
-same_ok r a b p q = let both : Ok a ≡ Ok b = sym p ∙ q in cc
-
-same_err : {A E : Type 0} (r : Result A E) (a b : E) → r ≡ Err a → r ≡ Err b → a ≡ b
-same_err r a b p q = let both : Err a ≡ Err b = sym p ∙ q in cc
 
 -- ---- the nonce call
 
@@ -95,13 +84,13 @@ record IsOne (v w : Verdict) (x y : List Call) : Type 0 where
   pub calls : x ≡ y
 
 none_called : (m n : Members) (jti : List ℕ) → m ≡ n → text_claim (codes "jti") m ≡ None → text_claim (codes "jti") n ≡ Some jti → ⊥
-none_called m n jti same none some = none_some (text_claim (codes "jti") n) jti (ap (text_claim (codes "jti")) (sym same) ∙ none) some
+none_called m n jti same none some = never_both (text_claim (codes "jti") n) jti (ap (text_claim (codes "jti")) (sym same) ∙ none) some
 
 called_once : (room : ℕ) (ask : AskValue) (before : List Call) (c d j k : List ℕ) (m n : Members) (a b : Call) (v w : Verdict) (x y : List Call) → Passing c m d n
     → text_claim (codes "jti") m ≡ Some j → IsCall ask m c j a → IsNext room before a → v ≡ verdict_by c a.answer → x ≡ before ++ a ∷ []
     → text_claim (codes "jti") n ≡ Some k → IsCall ask n d k b → IsNext room before b → w ≡ verdict_by d b.answer → y ≡ before ++ b ∷ [] → IsOne v w x y
 called_once room ask before c d j k m n a b v w x y p some h next vi xi other g then wi yi =
-    let names : j ≡ k = same_some (text_claim (codes "jti") n) j k (ap (text_claim (codes "jti")) (sym p.members_same) ∙ some) other in
+    let names : j ≡ k = one_some (text_claim (codes "jti") n) j k (ap (text_claim (codes "jti")) (sym p.members_same) ∙ some) other in
     let here : IsCall ask n d k a =
     subst (λ k. IsCall ask n d k a) names (subst (λ c. IsCall ask n c j a) p.content_same (subst (λ m. IsCall ask m c j a) p.members_same h)) in
     let same : a ≡ b = one_call room ask n d k before a b here next g then in
@@ -208,7 +197,7 @@ one_checked profile room number calls lines o p a b h k =
 signs_once : (attribute : List ℕ) (key : KeyValue) (first text other : List ℕ) → Signs attribute key first text → Signs attribute key first other → text ≡ other
 signs_once attribute key first text other s t =
     let cut = of_these attribute first t.typed t.claims key text s t.cut in
-    let uri : s.uri ≡ t.uri = same_ok (normal_of t.typed) s.uri t.uri (ap normal_of (sym cut.0) ∙ s.normal) t.normal in
+    let uri : s.uri ≡ t.uri = same_ok s.uri t.uri (sym (ap normal_of (sym cut.0) ∙ s.normal) ∙ t.normal) in
     let claims : SpellsClaims t.claims s.members = subst (λ c. SpellsClaims c s.members) cut.1 s.spells in
     let m : s.members ≡ t.members = reads_once given t.claims s.members t.members claims.reads t.spells.reads in
     s.signed ∙ (ap (λ u. signed_uri attribute key u s.members) uri ∙ (ap (λ m. signed_uri attribute key t.uri m) m ∙ sym t.signed))
@@ -279,16 +268,16 @@ named_not_memory found name named is =
 
 one_fault : (text : List ℕ) (a b : ConfFault) → IsFault text a → IsFault text b → a ≡ b
 one_fault text a b (unread is h) (unread same k) = is ∙ sym same
-one_fault text a b (unread is h) (fails k) = absurd (none_some _ k.json (h k.utf8) k.reading)
-one_fault text a b (fails h) (unread same k) = absurd (none_some _ h.json (k h.utf8) h.reading)
+one_fault text a b (unread is h) (fails k) = absurd (never_both _ k.json (h k.utf8) k.reading)
+one_fault text a b (fails h) (unread same k) = absurd (never_both _ h.json (k h.utf8) h.reading)
 one_fault text a b (fails h) (fails k) =
-    let json = same_some _ h.json k.json h.reading k.reading in
-    same_err (conf_of k.json) a b (ap conf_of (sym json) ∙ h.defined) k.defined
+    let json = one_some _ h.json k.json h.reading k.reading in
+    same_err a b (sym (ap conf_of (sym json) ∙ h.defined) ∙ k.defined)
 
 one_conf_refusal : (text : List ℕ) (a b : ConfFault) (o p : Outcome) → RefusesConf a text → RefusesConf b text → IsConfRefusal a o → IsConfRefusal b p → o ≡ p
 one_conf_refusal text a b o p h k x y =
     let found = one_fault text a b (fault_of a text x.0 h x.1) (fault_of b text y.0 k y.1) in
-    let name : x.0 ≡ y.0 = same_some (fault_name b) x.0 y.0 (ap fault_name (sym found) ∙ x.1) y.1 in
+    let name : x.0 ≡ y.0 = one_some (fault_name b) x.0 y.0 (ap fault_name (sym found) ∙ x.1) y.1 in
     x.2 ∙ (ap (λ n. refusal (codes "conf " ++ n)) name ∙ sym y.2)
 
 one_work : (job : JobValue) (lines : List (List ℕ)) (o p : Outcome) → Works job lines o → Works job lines p → o ≡ p
@@ -311,7 +300,7 @@ one_worked job other input again o p same e h k =
 pub lacks_none : (command : Command) (text : List ℕ) (v w : ConfValue) (job : JobValue) → Configures text v → Configures text w
     → job_of command v ≡ None → job_of command w ≡ Some job → ⊥
 lacks_none command text v w job h k lacks has =
-    none_some (job_of command w) job (ap (job_of command) (sym (conf.only text v w h k)) ∙ lacks) has
+    never_both (job_of command w) job (ap (job_of command) (sym (conf.only text v w h k)) ∙ lacks) has
 
 pub one_answer : (command : Command) (text input : List ℕ) (o p : Outcome) → Answers command text (Some input) o → Answers command text (Some input) p → o ≡ p
 one_answer command text input o p (no_conf a h is) (no_conf b k same) = one_conf_refusal text a b o p h k is same
@@ -323,5 +312,5 @@ one_answer command text input o p (no_key v h lacks is) (works w j i k has e wor
 one_answer command text input o p (works v j i h has e work) (no_conf b k same) = absurd (conf.refused b text v k (named_not_memory b same.0 same.1) h)
 one_answer command text input o p (works v j i h has e work) (no_key w k lacks same) = absurd (lacks_none command text w v j k h lacks has)
 one_answer command text input o p (works v j i h has e work) (works w q a k own f done_too) =
-    let job : j ≡ q = same_some (job_of command w) j q (ap (job_of command) (sym (conf.only text v w h k)) ∙ has) own in
+    let job : j ≡ q = one_some (job_of command w) j q (ap (job_of command) (sym (conf.only text v w h k)) ∙ has) own in
     one_worked j q i a o p job (sym e ∙ f) work done_too

@@ -4,6 +4,7 @@ use Rattle.std.specs.Io.KnownBytes.{prepend_known, append_known, IsAtEnd}
 use Rattle.std.specs.List.{list_any}
 use Rattle.std.proofs.lemmas.Bool.{cases_lt}
 use borrow.Author.Tests.{lt-ltb, ltb-false}
+use Rattle.usp_base.proofs.Facts.{never_both, same_some}
 use Rattle.usp_base.specs.Outside.{file_of}
 use Rattle.usp_base.specs.declared.files.MemoryFile.{MemoryFile}
 use Rattle.usp_base.specs.declared.fault.Status.{Status}
@@ -11,7 +12,6 @@ use Rattle.usp_base.specs.declared.fault.Status.TheVariants.{Done, Denials, Word
 use Rattle.usp_conf.proofs.Refused as rows
 use Rattle.usp_conf.specs.Readings.{Configures}
 use Rattle.usp_conf.specs.Values.{ConfValue}
-use Rattle.usp_tool.proofs.LawsOnce.{none_some}
 use Rattle.usp_tool.specs.Answers.{Answers, IsRefusedUnread, Works, WorksInput, works}
 use Rattle.usp_base.specs.Lines.{lines_of}
 use Rattle.usp_tool.specs.Input.{is_long_input, is_long_line}
@@ -84,17 +84,14 @@ pub accepted : (command : Command) (text : List ℕ) (conf : ConfValue) (job : J
     → IsRefusedUnread command text → ⊥
 accepted command text conf job configures has (inl refused) = rows.refused refused.0 text conf refused.1 refused.2 configures
 accepted command text conf job configures has (inr lacks) =
-    none_some (job_of command conf) job (ap (job_of command) (sym (rows.only text lacks.0 conf lacks.1 configures)) ∙ lacks.2) has
-
-one_text : (a b : List ℕ) → Some a ≡ Some b → a ≡ b
-one_text a b e = cc
+    never_both (job_of command conf) job (ap (job_of command) (sym (rows.only text lacks.0 conf lacks.1 configures)) ∙ lacks.2) has
 
 -- the text that was loaded is the told one
 pub same_file : (files : Option (List MemoryFile)) (all : List MemoryFile) (name conf text : List ℕ) → files ≡ Some all → file_of all name ≡ Some conf
     → IfSome files (λ files. file_of files name ≡ Some text) → text ≡ conf
 same_file None all name conf text e f h = let differ : ◌≡◌ {A = Option (List MemoryFile)} None (Some all) = e in cc
 same_file (Some these) all name conf text e f h =
-    let same : these ≡ all = cc in one_text text conf (sym h ∙ (ap (λ l. file_of l name) same ∙ f))
+    let same : these ≡ all = cc in same_some text conf (sym h ∙ (ap (λ l. file_of l name) same ∙ f))
 
 -- ---- the last put
 

@@ -20,7 +20,8 @@ Works (signing attribute key) lines outcome = SignsAll attribute key 1 lines out
 -- an input that is too long, or has too long a line, is refused
 abbrev pub WorksInput : JobValue → List ℕ → Outcome → Type 0
 WorksInput job input outcome =
-    MatchBool (is_long_input input) (outcome ≡ refusal (codes "input")) (Works job (lines_of input) outcome)
+    MatchBool (is_long_input input) (outcome ≡ refusal (codes "input"))
+    (Works job (lines_of input) outcome)
 
 -- The configuration is refused, or has no key of the name that the command gives. The input is not read then.
 abbrev pub IsRefusedUnread : Command → List ℕ → Type 0
@@ -30,12 +31,12 @@ IsRefusedUnread command conf =
 
 -- The outcome of a command and a configuration, and of the input where it is read: what is left to be read is that,
 -- if it is told.
-pub data Answers (command : Command) (conf : List ℕ) (left : Option (List ℕ)) (outcome : Outcome) : Type 0
-  where
-    no_conf : (found : ConfFault) → RefusesConf found conf → IsConfRefusal found outcome
-        → Answers command conf left outcome
-    no_key : (value : ConfValue) → Configures conf value → job_of command value ≡ None
-        → outcome ≡ refusal (codes "key") → Answers command conf left outcome
-    works : (value : ConfValue) (job : JobValue) (input : List ℕ) → Configures conf value
-        → job_of command value ≡ Some job → IfSome left (λ bytes. bytes ≡ input)
-        → WorksInput job input outcome → Answers command conf left outcome
+pub data Answers (command : Command) (conf : List ℕ) (left : Option (List ℕ)) (outcome : Outcome)
+    : Type 0 where
+  no_conf : (found : ConfFault) → RefusesConf found conf → IsConfRefusal found outcome
+      → Answers command conf left outcome
+  no_key : (value : ConfValue) → Configures conf value → job_of command value ≡ None
+      → outcome ≡ refusal (codes "key") → Answers command conf left outcome
+  works : (value : ConfValue) (job : JobValue) (input : List ℕ) → Configures conf value
+      → job_of command value ≡ Some job → IfSome left (λ bytes. bytes ≡ input)
+      → WorksInput job input outcome → Answers command conf left outcome

@@ -20,4 +20,5 @@ job_value (job.Sign attribute key) = signing attribute.now key.now
 abbrev pub job_of : Command → ConfValue → Option JobValue
 job_of (check name) conf = Some (checking conf)
 job_of (sign name kid) conf =
-    option_map (λ key. signing conf.site.profile.attribute key) (key_named conf.site.profile.ring kid)
+    option_map (λ key. signing conf.site.profile.attribute key)
+    (key_named conf.site.profile.ring kid)

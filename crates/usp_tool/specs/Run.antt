@@ -24,7 +24,8 @@ pub record World (S : Type 0) : Type 0 where
   pub told : Option (List ℕ)
   pub put_faults : ℕ
 
-abbrev pub world_of : {F S K : Type 0} → FilesGhosts F → SourceGhosts S → SinkGhosts K → F → S → K → World S
+abbrev pub world_of : {F S K : Type 0} → FilesGhosts F → SourceGhosts S → SinkGhosts K → F → S → K
+    → World S
 world_of f s k files input out =
     record {
       files = f.files files;
@@ -39,27 +40,28 @@ world_of f s k files input out =
     }
 
 -- The text went out and the status is its own, or a put failed and a part of it went out.
-abbrev pub Wrote : (before now : Option (List ℕ)) (faults_before faults : ℕ) → List ℕ → Status → Status
-    → Type 0
+abbrev pub Wrote : (before now : Option (List ℕ)) (faults_before faults : ℕ) → List ℕ → Status
+    → Status → Type 0
 Wrote before now faults_before faults text status result =
     ((result ≡ status) × (now ≡ append_known before text))
-    ⊎ ((result ≡ Outside) × Rose faults_before faults × (n : ℕ) × (now ≡ append_known before (take n text)))
+    ⊎ ((result ≡ Outside) × Rose faults_before faults × (n : ℕ)
+    × (now ≡ append_known before (take n text)))
 
 -- The configuration that the command names was loaded, and the outcome is one under it, with what was left to
 -- be read.
-pub record IsAnswered (command : Command) (files : Option (List MemoryFile)) (left : Option (List ℕ))
-    (outcome : Outcome) : Type 0 where
+pub record IsAnswered (command : Command) (files : Option (List MemoryFile))
+    (left : Option (List ℕ)) (outcome : Outcome) : Type 0 where
   pub conf : List ℕ
   pub loaded : IfSome files (λ all. file_of all (conf_name command) ≡ Some conf)
   pub answers : Answers command conf left outcome
 
 -- The text of such an outcome went out whole, and the status is its own.
-pub record PutsWhole {S : Type 0} (command : Command) (before after : World S) (status : Status) : Type 0
-  where
-    pub outcome : Outcome
-    pub answered : IsAnswered command before.files before.left outcome
-    pub written : after.told ≡ append_known before.told outcome.text
-    pub ends : status ≡ outcome.status
+pub record PutsWhole {S : Type 0} (command : Command) (before after : World S) (status : Status)
+    : Type 0 where
+  pub outcome : Outcome
+  pub answered : IsAnswered command before.files before.left outcome
+  pub written : after.told ≡ append_known before.told outcome.text
+  pub ends : status ≡ outcome.status
 
 -- A part of the text of such an outcome went out.
 pub record PutsPart {S : Type 0} (command : Command) (before after : World S) : Type 0 where
@@ -94,7 +96,8 @@ ReadsWhole Outside ended = Unit {0}
 ReadsWhole Memory ended = Unit {0}
 
 -- What a run over words leaves, and its status.
-pub record Runs {S : Type 0} (words : List (List ℕ)) (before after : World S) (status : Status) : Type 0 where
+pub record Runs {S : Type 0} (words : List (List ℕ)) (before after : World S) (status : Status)
+    : Type 0 where
   -- other words print the usage line, and nothing is read
   pub usage : IfNone (command_of words)
       (Wrote before.told after.told before.put_faults after.put_faults usage_line Words status)
@@ -108,5 +111,5 @@ pub record Runs {S : Type 0} (words : List (List ℕ)) (before after : World S) 
   pub whole : ReadsWhole status after.ended
   -- under a configuration that is refused, or lacks the key, nothing is read
   pub refused_unread : IfSome (command_of words) (λ command. (all : List MemoryFile) (conf : List ℕ)
-      → before.files ≡ Some all → file_of all (conf_name command) ≡ Some conf → IsRefusedUnread command conf
-      → after.input ≡ before.input)
+      → before.files ≡ Some all → file_of all (conf_name command) ≡ Some conf
+      → IsRefusedUnread command conf → after.input ≡ before.input)

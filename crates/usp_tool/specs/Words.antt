@@ -12,7 +12,8 @@ pub data Command : Type 0 where
 
 abbrev pub command_of : List (List ℕ) → Option Command
 command_of (word ∷ conf ∷ []) = if bytes_eq word (codes "check") then Some (check conf) else None
-command_of (word ∷ conf ∷ kid ∷ []) = if bytes_eq word (codes "sign") then Some (sign conf kid) else None
+command_of (word ∷ conf ∷ kid ∷ []) =
+    if bytes_eq word (codes "sign") then Some (sign conf kid) else None
 command_of other = None
 
 -- a command of the code, its words as bytes

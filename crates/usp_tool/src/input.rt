@@ -16,7 +16,8 @@ pub fn read_up_to<S: Source>(
     source: &mut S,
     most: usize,
 ) -> Result<Vec<u8>, LoadFault>
-    ensures taken { IfOk result (λ bytes. S.left source.old ≡ prepend_known bytes.items (S.left source.new)) }
+    ensures taken { IfOk result (λ bytes.
+        S.left source.old ≡ prepend_known bytes.items (S.left source.new)) }
     ensures over { IfOk result (λ bytes. length bytes.items ≤ most
         → (S.ended source.new ≡ true) × IsAtEnd (S.left source.new)) }
     ensures cause { HasCause (S.read_count source.old) (S.read_count source.new)

@@ -1,5 +1,5 @@
 //! Laws of the commands.
-ghost use Rattle.std.specs.Prelude.{◌≡◌, ◌⊎◌, ◌≤◌, List, [], ◌∷◌, ℕ, length, Option, Some, false, true};
+ghost use Rattle.std.specs.Prelude.{◌≡◌, ◌⊎◌, ◌≤◌, ◌+◌, List, [], ◌∷◌, ℕ, length, Option, Some, false, true};
 ghost use Rattle.std.specs.List.{All};
 ghost use Rattle.std.specs.Option.{is_some};
 ghost use Rattle.usp_base.specs.declared.fault.Status.TheVariants.{Done, Denials};
@@ -24,6 +24,10 @@ ghost use Rattle.usp_tool.specs.Sign.Line.{Signs, payload_for};
 ghost use Rattle.usp_tool.specs.Words.{Command, check, sign};
 ghost use Rattle.usp_tool.specs.declared.limits.TheConstants.{MAX_INPUT, MAX_LINE};
 
+use usp_base::MOMENT_BOUND;
+use usp_claims::MAX_NUMBER;
+use usp_nonce::{MAX_UNTIL, MOMENT_LIMIT};
+
 /// Under a configuration, lines of which each is an ask are all judged, and lines for each of which something
 /// is signed are all signed: in an input that is not too long, only a line of another form is refused.
 pub fn lines_in_their_grammar_are_answered()
@@ -31,10 +35,12 @@ pub fn lines_in_their_grammar_are_answered()
         → Configures conf value → Answers (check name) conf (Some input) outcome
         → is_long_input input ≡ false → All (λ line. is_some (ask_of line) ≡ true) (lines_of input)
         → (outcome.status ≡ Done) ⊎ (outcome.status ≡ Denials) }
-    ensures signed { (name kid conf input : List ℕ) (value : ConfValue) (key : KeyValue) (outcome : Outcome)
-        → Configures conf value → key_named value.site.profile.ring kid ≡ Some key
+    ensures signed { (name kid conf input : List ℕ) (value : ConfValue) (key : KeyValue)
+        (outcome : Outcome) → Configures conf value
+        → key_named value.site.profile.ring kid ≡ Some key
         → Answers (sign name kid) conf (Some input) outcome → is_long_input input ≡ false
-        → All (λ line. (text : List ℕ) × Signs value.site.profile.attribute key line text) (lines_of input)
+        → All (λ line. (text : List ℕ) × Signs value.site.profile.attribute key line text)
+        (lines_of input)
         → outcome.status ≡ Done }
 {}
 
@@ -42,16 +48,19 @@ pub fn lines_in_their_grammar_are_answered()
 /// under the same configuration, with any cookie and at any moment, where the claims are short enough as they
 /// are sealed, and admits the normal form of the line's URI.
 pub fn signed_passes()
-    ensures each { (name kid conf input : List ℕ) (value : ConfValue) (key : KeyValue) (outcome : Outcome)
-        → Configures conf value → key_named value.site.profile.ring kid ≡ Some key
+    ensures each { (name kid conf input : List ℕ) (value : ConfValue) (key : KeyValue)
+        (outcome : Outcome) → Configures conf value
+        → key_named value.site.profile.ring kid ≡ Some key
         → Answers (sign name kid) conf (Some input) outcome → outcome.status ≡ Done
         → (texts : List (List ℕ))
         × SignsEach value.site.profile.attribute key (lines_of input) texts outcome.text }
     ensures rules { (conf kid line text : List ℕ) (value : ConfValue) (key : KeyValue)
-        (cookie : Option (List ℕ)) (moment : ℕ) (s : Signs value.site.profile.attribute key line text)
-        → Configures conf value → key_named value.site.profile.ring kid ≡ Some key
+        (cookie : Option (List ℕ)) (moment : ℕ)
+        (s : Signs value.site.profile.attribute key line text) → Configures conf value
+        → key_named value.site.profile.ring kid ≡ Some key
         → length (payload_for s.uri s.members) ≤ MAX_PAYLOAD
-        → AllHold (λ r. Holds r value.site.profile (record { uri = text; cookie = cookie; moment = moment }))
+        → AllHold
+        (λ r. Holds r value.site.profile (record { uri = text; cookie = cookie; moment = moment }))
         (rule.Uri ∷ rule.Missing ∷ rule.Package ∷ rule.Header ∷ rule.Signature ∷ rule.Claims ∷ []) }
     ensures content { (conf kid line text : List ℕ) (value : ConfValue) (key : KeyValue)
         (s : Signs value.site.profile.attribute key line text) → Configures conf value
@@ -62,12 +71,13 @@ pub fn signed_passes()
 /// Lines have one outcome, and leave one list of nonce calls behind them. So a command, a configuration and an
 /// input have one.
 pub fn one_outcome()
-    ensures checked { (profile : Profile) (room number : ℕ) (calls : List Call) (lines : List (List ℕ))
-        (o p : Outcome) (a b : List Call) → Checks profile room number calls lines o a
-        → Checks profile room number calls lines p b → (o ≡ p) × (a ≡ b) }
+    ensures checked { (profile : Profile) (room number : ℕ) (calls : List Call)
+        (lines : List (List ℕ)) (o p : Outcome) (a b : List Call)
+        → Checks profile room number calls lines o a → Checks profile room number calls lines p b
+        → (o ≡ p) × (a ≡ b) }
     ensures signed { (attribute : List ℕ) (key : KeyValue) (number : ℕ) (lines : List (List ℕ))
-        (o p : Outcome) → SignsAll attribute key number lines o → SignsAll attribute key number lines p
-        → o ≡ p }
+        (o p : Outcome) → SignsAll attribute key number lines o
+        → SignsAll attribute key number lines p → o ≡ p }
     ensures answered { (command : Command) (conf input : List ℕ) (o p : Outcome)
         → Answers command conf (Some input) o → Answers command conf (Some input) p → o ≡ p }
 {}
@@ -76,4 +86,11 @@ pub fn one_outcome()
 pub fn limits_are_told()
     ensures line { MAX_LINE ≡ 32768 }
     ensures input { MAX_INPUT ≡ 16777216 }
+{}
+
+/// What two crates say of one thing is one number: each moment of a request is one of the nonce table, and a nonce
+/// without an `exp` is held beyond each second that an `exp` can name.
+pub fn limits_agree()
+    ensures moments { MOMENT_LIMIT ≡ MOMENT_BOUND }
+    ensures ends { MAX_UNTIL ≡ MAX_NUMBER + 1 }
 {}

@@ -14,5 +14,7 @@ mod sign;
 mod tests;
 mod words;
 
-pub use laws::{limits_are_told, lines_in_their_grammar_are_answered, one_outcome, signed_passes};
+pub use laws::{
+    limits_agree, limits_are_told, lines_in_their_grammar_are_answered, one_outcome, signed_passes,
+};
 pub use limits::{MAX_INPUT, MAX_LINE};

@@ -14,14 +14,12 @@ use crate::input::read_up_to;
 use crate::job::{job_of, work};
 use crate::limits::MAX_INPUT;
 use crate::output::{Outcome, conf_refusal, put_text, refusal};
-use crate::words::{Command, command_of};
+use crate::words::{Command, USAGE, command_of};
 use std::alloc::Global;
 use std::process::ExitCode;
 use usp_base::{Files, LoadFault, Sink, Source, Status};
 use usp_conf::read_conf;
 use usp_ext::Kit;
-
-const USAGE: &[u8] = b"usage: usp sign CONF KID | check CONF\n";
 
 /// What commands are run with.
 #[derive(Drop)]
@@ -51,7 +49,8 @@ fn outcome_under<S: Source>(
     ensures answers { IfOk result (λ outcome.
         Answers (in_bytes command.now) text.now (S.left input.old) outcome) }
     ensures own { IfOk result (λ outcome. IsOwn outcome.status) }
-    ensures cause { IsErrOf result LoadFault.Failed → Rose (S.read_count input.old) (S.read_count input.new) }
+    ensures cause { IsErrOf result LoadFault.Failed
+        → Rose (S.read_count input.old) (S.read_count input.new) }
     ensures whole { IfOk result (λ outcome. ReadsWhole outcome.status (S.ended input.new)) }
     ensures unread { IsRefusedUnread (in_bytes command.now) text.now → input.new ≡ input.old }
 {
@@ -80,7 +79,8 @@ fn outcome_of<F: Files, S: Source>(
     ensures cause { IsErrOf result LoadFault.Failed
         → Rose (F.file_count files.old) (F.file_count files.new)
         ⊎ Rose (S.read_count input.old) (S.read_count input.new) }
-    ensures asked { AsksAtMost (Some (in_bytes command.now)) (F.asked files.old) (F.asked files.new) }
+    ensures asked { AsksAtMost (Some (in_bytes command.now))
+        (F.asked files.old) (F.asked files.new) }
     ensures whole { IfOk result (λ outcome. ReadsWhole outcome.status (S.ended input.new)) }
     ensures unread { (all : List MemoryFile) (conf : List ℕ) → F.files files.old ≡ Some all
         → file_of all (conf_name (in_bytes command.now)) ≡ Some conf
@@ -120,7 +120,8 @@ pub fn run<F: Files, S: Source, K: Sink>(
 ) -> Status
     ensures { Runs (map (λ w. string_bytes w) words.now)
         (world_of F.Files S.Source K.Sink outside.old.files outside.old.input outside.old.out)
-        (world_of F.Files S.Source K.Sink outside.new.files outside.new.input outside.new.out) result }
+        (world_of F.Files S.Source K.Sink outside.new.files outside.new.input outside.new.out)
+        result }
 {
     let means = Means {
         alloc,

@@ -25,7 +25,8 @@ pub fn sign(
     input: &[u8],
 ) -> Result<Outcome, NoMemory>
     requires { length input.now ≤ MAX_INPUT }
-    ensures signed { IfOk result (λ outcome. SignsAll attribute.now key.now 1 (lines_of input.now) outcome) }
+    ensures signed { IfOk result (λ outcome.
+        SignsAll attribute.now key.now 1 (lines_of input.now) outcome) }
     ensures own { IfOk result (λ outcome. IsOwn outcome.status) }
 {
     let mut text = Vec::new(alloc);

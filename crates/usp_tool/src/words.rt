@@ -3,6 +3,9 @@ ghost use Rattle.std.specs.Prelude.{◌≡◌, map, string_bytes};
 ghost use Rattle.std.specs.Option.{option_map};
 ghost use Rattle.usp_tool.specs.Words.{command_of, conf_name, in_bytes};
 
+/// The line that is printed for other words.
+pub const USAGE: &[u8] = b"usage: usp sign CONF KID | check CONF\n";
+
 /// What the words ask for.
 #[derive(Drop)]
 pub enum Command<'a> {

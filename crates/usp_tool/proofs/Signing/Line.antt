@@ -1,6 +1,7 @@
 -- One line of `sign`.
 use Rattle.std.proofs.Common.{IfOk, MatchOption, ◌≡◌, ℕ, ◌+◌, ◌<◌, ◌≤◌, codes, List, [], ◌++◌, length, Option, Some, None, Result, Ok, Err, refl, sym, ap, ◌∙◌, subst, arith, length-append}
 use Rattle.std.specs.Result.{result_ok}
+use Rattle.usp_base.proofs.Facts.{same_some}
 use Rattle.usp_base.specs.Cuts.{cut_at}
 use Rattle.usp_claims.proofs.Decimals.{text_set}
 use Rattle.usp_claims.proofs.Lengths.{grows, text_size}
@@ -14,6 +15,7 @@ use Rattle.usp_json.specs.declared.value.Json.TheVariants.{Str}
 use Rattle.usp_json.specs.declared.value.Members.{Members}
 use Rattle.usp_jws.specs.Keys.{KeyValue}
 use Rattle.usp_package.specs.Package.{nothing, package_of}
+use Rattle.usp_rules.proofs.Readings.{ok_of}
 use Rattle.usp_rules.proofs.Segments.{length-segment}
 use Rattle.usp_rules.specs.Segment.{segment_of}
 use Rattle.usp_rules.specs.Tokens.{SpellsClaims}
@@ -47,9 +49,6 @@ abbrev second_of : Option (List ℕ × List ℕ) → List ℕ
 second_of None = []
 second_of (Some cut) = cut.1
 
-one_some : (a b : List ℕ) → Some a ≡ Some b → a ≡ b
-one_some a b e = cc
-
 one_pair : (a b x y : List ℕ) → ◌≡◌ {A = Option (List ℕ × List ℕ)} (Some (a, b)) (Some (x, y)) → (a ≡ x) × (b ≡ y)
 one_pair a b x y e = (ap first_of e, ap second_of e)
 
@@ -72,7 +71,7 @@ uri_is : (attribute line typed claims uri : List ℕ) (key : KeyValue) (text : L
     → result_ok (normal_of typed) ≡ Some uri → s.uri ≡ uri
 uri_is attribute line typed claims uri key text s cut some =
     let there : result_ok (normal_of typed) ≡ Some s.uri = ap (λ t. result_ok (normal_of t)) (sym (of_these attribute line typed claims key text s cut).0) ∙ ap result_ok s.normal in
-    one_some s.uri uri (sym there ∙ some)
+    same_some s.uri uri (sym there ∙ some)
 
 pub not_bare : (attribute line typed claims uri : List ℕ) (key : KeyValue) → cut_at space line ≡ Some (typed, claims) → result_ok (normal_of typed) ≡ Some uri
     → (package_of attribute uri ≡ nothing → ⊥) → (text : List ℕ) → Signs attribute key line text → ⊥
@@ -83,10 +82,6 @@ pub no_claims : (attribute line typed claims : List ℕ) (key : KeyValue) → cu
     → ((members : Members) → SpellsClaims claims members → ⊥) → (text : List ℕ) → Signs attribute key line text → ⊥
 no_claims attribute line typed claims key cut none text s =
     none s.members (subst (λ c. SpellsClaims c s.members) (of_these attribute line typed claims key text s cut).1 s.spells)
-
-ok_of : {E : Type 0} (r : Result (List ℕ) E) (text : List ℕ) → result_ok r ≡ Some text → r ≡ Ok text
-ok_of (Ok x) text e = cc
-ok_of (Err f) text e = cc
 
 too_long : (attribute line typed claims uri : List ℕ) (key : KeyValue) (members : Members) → cut_at space line ≡ Some (typed, claims)
     → result_ok (normal_of typed) ≡ Some uri → SpellsClaims claims members → MAX_LEN < length (signed_uri attribute key uri members)

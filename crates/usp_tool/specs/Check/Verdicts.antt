@@ -25,7 +25,8 @@ use Rattle.usp_tool.specs.declared.check.verdict.Verdict.TheVariants.{Admitted, 
 
 -- The nonce call of a request that passes rules 1 to 15 (RFC 9246 section 2.1.7): at its moment, until `exp`, or as
 -- long as can be without it.
-pub record IsCall (ask : AskValue) (members : Members) (content jti : List ℕ) (call : Call) : Type 0 where
+pub record IsCall (ask : AskValue) (members : Members) (content jti : List ℕ) (call : Call)
+    : Type 0 where
   pub nonce : call.nonce ≡ record { jti = jti; uri = content }
   pub now : call.now ≡ ask.moment
   pub until : call.until ≡ unwrap_or (number_claim (codes "exp") members) MAX_UNTIL
@@ -41,24 +42,27 @@ verdict_by content Full = Denied rule.Room
 -- where rules 1 to 15 hold and there is a `jti`.
 pub data Decides (profile : Profile) (room : ℕ) (ask : AskValue) (before : List Call)
     : Verdict → List Call → Type 0 where
-  denied : (verdict : Verdict) (after : List Call) (rule : _) → Judges profile ask (judged.Denied rule)
-      → verdict ≡ Denied rule → after ≡ before → Decides profile room ask before verdict after
-  free : (verdict : Verdict) (after : List Call) (content token : List ℕ) (members : Members) (key : ℕ)
-      → Judges profile ask (judged.Passed content token members key)
+  denied : (verdict : Verdict) (after : List Call) (rule : _)
+      → Judges profile ask (judged.Denied rule) → verdict ≡ Denied rule → after ≡ before
+      → Decides profile room ask before verdict after
+  free : (verdict : Verdict) (after : List Call) (content token : List ℕ) (members : Members)
+      (key : ℕ) → Judges profile ask (judged.Passed content token members key)
       → text_claim (codes "jti") members ≡ None → verdict ≡ Admitted content → after ≡ before
       → Decides profile room ask before verdict after
-  called : (verdict : Verdict) (after : List Call) (content token jti : List ℕ) (members : Members) (key : ℕ)
-      (call : Call) → Judges profile ask (judged.Passed content token members key)
+  called : (verdict : Verdict) (after : List Call) (content token jti : List ℕ) (members : Members)
+      (key : ℕ) (call : Call) → Judges profile ask (judged.Passed content token members key)
       → text_claim (codes "jti") members ≡ Some jti → IsCall ask members content jti call
-      → IsNext room before call → verdict ≡ verdict_by content call.answer → after ≡ before ++ call ∷ []
-      → Decides profile room ask before verdict after
+      → IsNext room before call → verdict ≡ verdict_by content call.answer
+      → after ≡ before ++ call ∷ [] → Decides profile room ask before verdict after
 
 -- the line of a verdict
 abbrev pub verdict_line : ℕ → Verdict → List ℕ
-verdict_line number (Admitted content) = decimal number ++ (codes " admitted " ++ (content ++ line_feed ∷ []))
+verdict_line number (Admitted content) =
+    decimal number ++ (codes " admitted " ++ (content ++ line_feed ∷ []))
 verdict_line number (Denied rule) =
     decimal number
-    ++ (codes " denied " ++ (decimal (number_of rule) ++ (space ∷ (name_of rule ++ line_feed ∷ []))))
+    ++ (codes " denied "
+    ++ (decimal (number_of rule) ++ (space ∷ (name_of rule ++ line_feed ∷ []))))
 
 -- a denial makes a run that would be done one with denials
 abbrev pub status_with : Verdict → Status → Status
@@ -66,8 +70,8 @@ status_with (Denied rule) Done = Denials
 status_with verdict status = status
 
 -- the verdict, with a table that stands for the calls behind it
-pub record IsDecided (profile : Profile) (room : ℕ) (ask : AskValue) (before : List Call) (verdict : Verdict)
-    (table : Table) : Type 0 where
+pub record IsDecided (profile : Profile) (room : ℕ) (ask : AskValue) (before : List Call)
+    (verdict : Verdict) (table : Table) : Type 0 where
   pub after : List Call
   pub decides : Decides profile room ask before verdict after
   pub stands : StandsFor table after

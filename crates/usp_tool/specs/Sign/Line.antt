@@ -22,12 +22,14 @@ use Rattle.usp_uri.specs.declared.fault.TheConstants.{MAX_LEN}
 -- the container is `hash:` alone
 abbrev pub is_open : Members → Bool
 is_open members =
-    option_map_or (λ container. bytes_eq container (codes "hash:")) (text_claim (codes "cdniuc") members) false
+    option_map_or (λ container. bytes_eq container (codes "hash:"))
+    (text_claim (codes "cdniuc") members) false
 
 -- the claims that are sealed: a container that is `hash:` alone gets the segment of the URI
 abbrev pub claims_for : List ℕ → Members → Members
 claims_for uri members =
-    if is_open members then with_claim Uc (Str (codes "hash:" ++ segment_of uri)) members else members
+    if is_open members then with_claim Uc (Str (codes "hash:" ++ segment_of uri)) members
+    else members
 
 abbrev pub payload_for : List ℕ → Members → List ℕ
 payload_for uri members = canon_members (claims_for uri members)

@@ -62,7 +62,8 @@ fn decide_passed(
     ensures decided { (profile : Profile) (token : List ℕ) (key : ℕ) (before : List Call)
         → Judges profile ask.now (Passed content token claims.now key)
         → StandsFor table.old before → IsLegal table.old.room before
-        → IfOk result (λ verdict. IsDecided profile table.old.room ask.now before verdict table.new) }
+        → IfOk result (λ verdict.
+        IsDecided profile table.old.room ask.now before verdict table.new) }
     ensures calls { table.new.calls ≤ table.old.calls + 1 }
     ensures room { table.new.room ≡ table.old.room }
 {
@@ -83,8 +84,10 @@ pub fn decide(
     ask: &Ask<'_>,
 ) -> Result<Verdict, NoMemory>
     requires { table.old.calls < MAX_CALLS }
-    ensures decided { (before : List Call) → StandsFor table.old before → IsLegal table.old.room before
-        → IfOk result (λ verdict. IsDecided profile.now table.old.room ask.now before verdict table.new) }
+    ensures decided { (before : List Call) → StandsFor table.old before
+        → IsLegal table.old.room before
+        → IfOk result (λ verdict.
+        IsDecided profile.now table.old.room ask.now before verdict table.new) }
     ensures calls { table.new.calls ≤ table.old.calls + 1 }
     ensures room { table.new.room ≡ table.old.room }
 {
