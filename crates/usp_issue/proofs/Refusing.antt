@@ -1,0 +1,60 @@
+-- Why a content is not signed for a route, and what that says of the routes.
+use Rattle.std.proofs.Common.{◌≡◌, ◌≢◌, ◌⊎◌, ◌↔◌, ℕ, ◌+◌, ◌<◌, Bool, true, false, IsTrue, cond, List, [], ◌∷◌, length, drop, get_or, Option, Some, None, Result, Ok, Err, IfOk, IfErr, MatchOption, inl, inr, refl, sym, ap, ◌∙◌, subst, add-one, drop-cons}
+use Rattle.std.specs.Option.{is_some}
+use Rattle.usp_base.specs.Cuts.{after_prefix}
+use Rattle.usp_json.specs.declared.value.Members.{Members}
+use Rattle.usp_uri.specs.Answers.{Gives}
+use Rattle.usp_uri.specs.Components.{path_in}
+use Rattle.usp_uri.specs.Origin.{Origin, moved_of, moved_text}
+use Rattle.usp_uri.specs.declared.fault.UriFault.{UriFault}
+use Rattle.usp_uri.specs.declared.fault.UriFault.TheVariants as fault
+use Rattle.usp_issue.specs.Redirections.{IsPresent, IsTooLong, RefusesSigning, SendsFrom, Signs, elsewhere, none, refused as refused_route, sends}
+use Rattle.usp_issue.specs.Resignings.{target_of}
+use Rattle.usp_issue.specs.Routes.{RouteValue}
+use Rattle.usp_issue.specs.declared.fault.IssueFault.{IssueFault}
+use Rattle.usp_issue.specs.declared.fault.IssueFault.TheVariants.{TooLong, Present, NoMemory}
+use Rattle.usp_issue.specs.declared.signed.Signed.{Signed}
+
+-- ---- moving
+
+ok_by : (b : Bool) (found : UriFault) (text target : List ℕ) → cond b (Err found) (Ok text) ≡ Ok target → target ≡ text
+ok_by true found text target e = cc
+ok_by false found text target e = cc
+
+-- what is moved is the target
+pub moved_is : (content target : List ℕ) (route : RouteValue) → moved_of content route.place ≡ Ok target → target ≡ target_of content route
+moved_is content target route e = ok_by _ fault.TooLong (moved_text content route.place) target e
+
+too_long_by : (b : Bool) (text : List ℕ) (found : UriFault) → cond b (Err fault.TooLong) (Ok text) ≡ Err found → cond b (Err fault.TooLong) (Ok text) ≡ Err fault.TooLong
+too_long_by true text found e = refl
+too_long_by false text found e = cc
+
+-- a fault but for want of memory is that of the length
+gives_by : (content : List ℕ) (place : Origin) (found : UriFault) → Gives {A = List ℕ} (Err found) (moved_of content place) → found ≢ fault.NoMemory → moved_of content place ≡ Err found
+gives_by content place fault.TooLong h never = h
+gives_by content place fault.Scheme h never = h
+gives_by content place fault.Userinfo h never = h
+gives_by content place (fault.Syntax at) h never = h
+gives_by content place fault.Port h never = h
+gives_by content place (fault.Escape at) h never = h
+gives_by content place fault.Fragment h never = h
+gives_by content place fault.NoMemory h never = absurd (never refl)
+
+pub moved_too_long : (content : List ℕ) (place : Origin) (found : UriFault) → Gives {A = List ℕ} (Err found) (moved_of content place) → found ≢ fault.NoMemory → moved_of content place ≡ Err fault.TooLong
+moved_too_long content place found h never = too_long_by _ (moved_text content place) found (gives_by content place found h never)
+
+-- ---- what is refused
+
+pub refused : (found : IssueFault) (name : List ℕ) (members : Members) (content : List ℕ) (moment : ℕ) (route : RouteValue) → RefusesSigning found name members content moment route → found ≢ NoMemory
+    → IsTooLong name members content moment route ⊎ IsPresent name content route
+refused TooLong name members content moment route h never = inl h
+refused Present name members content moment route h never = inr h
+refused NoMemory name members content moment route h never = absurd (never refl)
+
+-- ---- routes
+
+-- the routes from a place on
+pub from_place : (routes : List RouteValue) (place : ℕ) (route : RouteValue) → place < length routes → route ≡ get_or routes place route → drop place routes ≡ route ∷ drop (place + 1) routes
+from_place routes place route within is =
+    let cons : drop place routes ≡ get_or routes place route ∷ drop (place + 1) routes = rw (add-one) (drop-cons routes place route within) in
+    cons ∙ ap (λ r. r ∷ drop (place + 1) routes) (sym is)
