@@ -1,6 +1,7 @@
 -- That changed claims are a claim set, and how long they and the token over them are.
-use Rattle.std.proofs.Common.{◌≡◌, ◌≢◌, ℕ, zero, suc, ◌+◌, ◌<◌, ◌≤◌, Bool, true, ◌&&◌, List, [], ◌∷◌, ◌++◌, length, codes, refl, sym, ap, ◌∙◌, arith, le-leb, length-append}
+use Rattle.std.proofs.Common.{◌≡◌, ◌≢◌, ℕ, zero, suc, ◌+◌, ◌<◌, ◌≤◌, Bool, true, false, ◌&&◌, ◌||◌, ◌==◌, List, [], ◌∷◌, ◌++◌, length, codes, refl, sym, ap, ◌∙◌, arith, le-leb, length-append}
 use Rattle.std.specs.Prelude.{nat_le, slice_index}
+use Rattle.std.specs.Char.{is_ascii_alphanumeric}
 use Rattle.std.specs.Fmt.{decimal}
 use Rattle.std.specs.Int.{byte_at, bytes_high_first, to_be_bytes, w32}
 use Rattle.std.specs.List.{list_all}
@@ -70,8 +71,11 @@ identity_is_not c d other e is = let both = sym other ∙ ap is_identity_byte (s
 identity_plain : (c : ℕ) → is_identity_byte c ≡ true → is_unescaped c ≡ true
 identity_plain c e = unescaped c (identity_high c e) (identity_is_not c 34 refl e) (identity_is_not c 92 refl e)
 
+one_of_high : (c : ℕ) → (is_ascii_alphanumeric c || ((c == 45) || ((c == 95) || ((c == 46) || false)))) ≡ true → 32 ≤ c
+one_of_high c e = grind (arith, nat_tests)
+
 letter_high : (c : ℕ) → is_token_letter c ≡ true → 32 ≤ c
-letter_high c e = grind (arith, nat_tests)
+letter_high c e = one_of_high c e
 
 letter_is_not : (c d : ℕ) → is_token_letter d ≡ false → is_token_letter c ≡ true → c ≢ d
 letter_is_not c d other e is = let both = sym other ∙ ap is_token_letter (sym is) ∙ e in cc

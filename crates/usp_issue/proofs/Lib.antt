@@ -1,5 +1,6 @@
 pub mod Finding
 pub mod Fitting
+pub mod Issued
 pub mod Keeping
 pub mod Once
 pub mod Passing

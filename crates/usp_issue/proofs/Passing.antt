@@ -55,11 +55,11 @@ use Rattle.usp_issue.proofs.Replacing.{IsSentOn, kept_container, narrowed_contai
 -- ---- a sealed token
 
 -- a token with a header that names the key, that the key verifies, and with claims
-record Carries (ring : List KeyValue) (token : List ℕ) (kid : Option (List ℕ)) (place : ℕ) (claims : Members) : Type 0 where
+record Carries (ring : List KeyValue) (token : List ℕ) (kid : Option (List ℕ)) (place : ℕ) (m : Members) : Type 0 where
   compact : IsToken token
   header : HasHeader token kid
   verified : IsVerified ring token place
-  claims : Claims token claims
+  claims : Claims token m
 
 carries_parts : (profile : Profile) (key : KeyValue) (payload : List ℕ) (m : Members) (parts : PartsValue) (k : Knows profile key) → SpellsClaims payload m → parts_text parts ≡ sealed key payload
     → IsToken (parts_text parts) → Carries profile.ring (parts_text parts) (Some key.kid) k.place m

@@ -1,6 +1,7 @@
 -- Why a content is not signed for a route, and what that says of the routes.
-use Rattle.std.proofs.Common.{◌≡◌, ◌≢◌, ◌⊎◌, ◌↔◌, ℕ, ◌+◌, ◌<◌, Bool, true, false, IsTrue, cond, List, [], ◌∷◌, length, drop, get_or, Option, Some, None, Result, Ok, Err, IfOk, IfErr, MatchOption, inl, inr, refl, sym, ap, ◌∙◌, subst, add-one, drop-cons}
+use Rattle.std.proofs.Common.{◌≡◌, ◌≢◌, ◌⊎◌, ◌↔◌, ℕ, ◌+◌, ◌<◌, ◌≤◌, Bool, true, false, IsTrue, cond, List, [], ◌∷◌, length, drop, get_or, Option, Some, None, Result, Ok, Err, IfOk, IfErr, MatchOption, inl, inr, refl, sym, ap, ◌∙◌, subst, add-one, drop-cons}
 use Rattle.std.specs.Option.{is_some}
+use Rattle.std.proofs.lemmas.List.{drop_all}
 use Rattle.usp_base.specs.Cuts.{after_prefix}
 use Rattle.usp_json.specs.declared.value.Members.{Members}
 use Rattle.usp_uri.specs.Answers.{Gives}
@@ -54,7 +55,32 @@ refused NoMemory name members content moment route h never = absurd (never refl)
 -- ---- routes
 
 -- the routes from a place on
-pub from_place : (routes : List RouteValue) (place : ℕ) (route : RouteValue) → place < length routes → route ≡ get_or routes place route → drop place routes ≡ route ∷ drop (place + 1) routes
+from_place : (routes : List RouteValue) (place : ℕ) (route : RouteValue) → place < length routes → route ≡ get_or routes place route → drop place routes ≡ route ∷ drop (place + 1) routes
 from_place routes place route within is =
-    let cons : drop place routes ≡ get_or routes place route ∷ drop (place + 1) routes = rw (add-one) (drop-cons routes place route within) in
-    cons ∙ ap (λ r. r ∷ drop (place + 1) routes) (sym is)
+    drop-cons routes place route within
+    ∙ (ap (λ n. get_or routes place route ∷ drop n routes) (sym (add-one place)) ∙ ap (λ (r : RouteValue). r ∷ drop (place + 1) routes) (sym is))
+
+-- What is found from the place on is found of all routes.
+abbrev pub IsFound : (name : List ℕ) → Members → (content : List ℕ) → (moment : ℕ) → List RouteValue → (place : ℕ) → Type 0
+IsFound name members content moment routes place =
+    (found : Option (ℕ × Signed)) → SendsFrom name members content moment place (drop place routes) found → SendsFrom name members content moment 0 routes found
+
+-- a route that is passed by
+pub passed : (name : List ℕ) (members : Members) (content : List ℕ) (moment : ℕ) (routes : List RouteValue) (place : ℕ) (route : RouteValue) → place < length routes → route ≡ get_or routes place route
+    → ((found : Option (ℕ × Signed)) → SendsFrom name members content moment (place + 1) (drop (place + 1) routes) found → SendsFrom name members content moment place (route ∷ drop (place + 1) routes) found)
+    → IsFound name members content moment routes place → IsFound name members content moment routes (place + 1)
+passed name members content moment routes place route within is by before found h =
+    before found (subst (λ (rs : List RouteValue). SendsFrom name members content moment place rs found) (sym (from_place routes place route within is)) (by found h))
+
+-- the route that the content is sent on by
+pub sent_here : (name : List ℕ) (members : Members) (content : List ℕ) (moment : ℕ) (routes : List RouteValue) (place : ℕ) (route : RouteValue) (signed : Signed) → place < length routes → route ≡ get_or routes place route
+    → SendsFrom name members content moment place (route ∷ drop (place + 1) routes) (Some (place, signed)) → IsFound name members content moment routes place
+    → SendsFrom name members content moment 0 routes (Some (place, signed))
+sent_here name members content moment routes place route signed within is by before =
+    before (Some (place, signed)) (subst (λ (rs : List RouteValue). SendsFrom name members content moment place rs (Some (place, signed))) (sym (from_place routes place route within is)) by)
+
+-- no route is left
+pub none_left : (name : List ℕ) (members : Members) (content : List ℕ) (moment : ℕ) (routes : List RouteValue) (place : ℕ) → length routes ≤ place → IsFound name members content moment routes place
+    → SendsFrom name members content moment 0 routes None
+none_left name members content moment routes place over before =
+    before None (subst (λ (rs : List RouteValue). SendsFrom name members content moment place rs None) (sym (drop_all place routes over)) (none place None refl))

@@ -93,11 +93,11 @@ pub fn sends_in_one_way()
         → a ≡ b }
 {}
 
-/// A token that was valid and is renewed is valid again, at each edge that judges alike and knows the key:
-/// for each content that its container meets, at each moment of its window. A token that was valid and is
-/// signed again is valid for its target at each edge that knows the route's key and has the route's
-/// audience. The new claims must be short enough to be read, and few enough, and the edge must understand
-/// what they call critical.
+/// A token that was valid at an edge, and is renewed with a key that the edge knows, is valid there for
+/// each content that its container meets, at each moment of its window. A token that was valid at an edge,
+/// and is signed again, is valid for its target at each edge that knows the route's key and has the route's
+/// audience, at each moment of its window. The new claims must be short enough to be read, and few enough,
+/// and the edge must understand what they call critical.
 pub fn issued_tokens_pass()
     ensures renewed { (profile : Profile) (shown : Presented) (m : Members) (key : KeyValue)
         (used token content : List ℕ) (later : ℕ) (renewed : IsRenewed m used shown.moment key token)

@@ -51,6 +51,7 @@ fn signed_for(
 }
 
 // What is signed for the route, where the path has its prefix. None where the request is sent elsewhere.
+#[tactic(auto, using(crate::proofs::Issued::lacks_prefix, crate::proofs::Issued::route_refuses, crate::proofs::Issued::route_signs))]
 fn sent_by(
     alloc: Global,
     name: &AttrName,

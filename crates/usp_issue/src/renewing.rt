@@ -72,6 +72,7 @@ fn renew(alloc: Global, used: &Use<'_>, key: &Key) -> Result<Option<Claims>, NoM
 ///
 /// `exp` becomes the moment and the period, and goes last where there was none; `iss` and `iat` become
 /// the key's issuer and the moment where they are there. All else stays, `jti` too.
+#[tactic(auto, using(crate::proofs::Issued::is_renewed))]
 pub fn renewed(alloc: Global, used: &Use<'_>, key: &Key) -> Result<Option<Token>, NoMemory>
     requires short { length (canon_members used.now.claims.now) ≤ MAX_CLAIMS }
     requires early { used.now.moment < MOMENT_BOUND }

@@ -72,6 +72,7 @@ fn resign(alloc: Global, used: &Use<'_>, route: &Route, target: &Uri) -> Result<
 }
 
 // The token that is signed for the target.
+#[tactic(auto, using(crate::proofs::Issued::is_resigned))]
 fn token_for(alloc: Global, used: &Use<'_>, route: &Route, target: &Uri) -> Result<Token, NoMemory>
     requires short { length (canon_members used.now.claims.now) ≤ MAX_CLAIMS }
     requires early { used.now.moment < MOMENT_BOUND }
@@ -87,6 +88,7 @@ fn token_for(alloc: Global, used: &Use<'_>, route: &Route, target: &Uri) -> Resu
 }
 
 // The content at the route's place.
+#[tactic(auto, using(crate::proofs::Refusing::moved_too_long))]
 fn target_at(alloc: Global, content: &Uri, route: &Route) -> Result<Uri, IssueFault>
     ensures moved { IfOk result (λ target. moved_of content.now route.now.place ≡ Ok target) }
     ensures refused { (name : List ℕ) (members : Members) (moment : ℕ) → IfErr result (λ fault.
@@ -138,6 +140,7 @@ fn location_of(
 ///
 /// `TooLong`, where the target is longer than a URI may be, or has no package and the location is.
 /// `Present`, where the target has a package, which may be a bad one. Else want of memory.
+#[tactic(auto, using(crate::proofs::Refusing::moved_is, crate::proofs::Issued::is_signed, crate::proofs::Issued::is_too_long))]
 pub fn resigned(
     alloc: Global,
     name: &AttrName,

@@ -119,14 +119,16 @@ fn claims_are_renewed_for_one_more_period(rt: HostRuntime) -> Result<(), Fail> {
             "{\"aud\":[\"e\"],\"jti\":\"n\",\"nbf\":9,\"x\":null,\"cdniuc\":\"hash:x\",\"cdnistt\":1,\"cdniets\":0}",
             "http://h/",
             Some(
-                "{\"aud\":[\"e\"],\"jti\":\"n\",\"nbf\":9,\"x\":null,\"cdniuc\":\"hash:x\",\"cdnistt\":1,\"cdniets\":0,\"exp\":50}",
+                "{\"aud\":[\"e\"],\"jti\":\"n\",\"nbf\":9,\"x\":null,\"cdniuc\":\"hash:x\",\"cdnistt\":1,\"cdniets\":0,\
+                \"exp\":50}",
             ),
         ),
         (
             "{\"cdniuc\":\"regex:a\",\"cdnistt\":1,\"cdniets\":4503599627370496,\"cdnistd\":1}",
             "http://h/",
             Some(
-                "{\"cdniuc\":\"regex:a\",\"cdnistt\":1,\"cdniets\":4503599627370496,\"cdnistd\":1,\"exp\":4503599627370546}",
+                "{\"cdniuc\":\"regex:a\",\"cdnistt\":1,\"cdniets\":4503599627370496,\"cdnistd\":1,\
+                \"exp\":4503599627370546}",
             ),
         ),
     ];
@@ -229,7 +231,7 @@ const LONG: &str = "{\"cdniuc\":\"regex:^https://\"}";
 fn a_content_is_refused_by_its_length_and_its_package(rt: HostRuntime) -> Result<(), Fail> {
     let alloc = rt.alloc();
     let package = "?URISigningPackage=K.K.K";
-    let rows: [(usize, &str, &str, Option<IssueFault>); 10] = [
+    let rows: [(usize, &str, &str, Option<IssueFault>); 11] = [
         (21, "", "b.example", None),
         (21, package, "b.example", Some(IssueFault::Present)),
         (
@@ -247,6 +249,7 @@ fn a_content_is_refused_by_its_length_and_its_package(rt: HostRuntime) -> Result
         (21, "?URISigningPackag=K.K.K", "b.example", None),
         (8054, "", "b.example", None),
         (8055, "", "b.example", Some(IssueFault::TooLong)),
+        (8187, "", "b.example", Some(IssueFault::TooLong)),
         (8192, "", "b.example", Some(IssueFault::TooLong)),
         (8167, package, "bb.example", Some(IssueFault::Present)),
         (8168, package, "bb.example", Some(IssueFault::TooLong)),
@@ -254,7 +257,7 @@ fn a_content_is_refused_by_its_length_and_its_package(rt: HostRuntime) -> Result
     for (length, query, authority, expected) in rows {
         let content = content_of(alloc, length, query)?;
         let found = signed_for(alloc, LONG, &content, authority)?;
-        assert_eq!(rt; found.err(), expected, "{length} {query}");
+        assert!(rt; found.err() == expected, "{length} {query}");
     }
     Ok(())
 }
@@ -328,7 +331,7 @@ fn a_request_is_sent_on_by_the_first_route_that_signs(rt: HostRuntime) -> Result
         ("https://a.example/b/", 8053, "", Some(1)),
         ("https://a.example/b/", 8054, "", Some(2)),
         ("https://a.example/b/", 8055, "", None),
-        ("https://a.example/b/", 8190, "", None),
+        ("https://a.example/b/", 8187, "", None),
         ("https://a.example/b/s", 0, "?URISigningPackage=K.K.K", None),
         ("https://a.example/b", 0, "", None),
         ("https://a.example/v/b/s", 0, "", None),
@@ -341,7 +344,7 @@ fn a_request_is_sent_on_by_the_first_route_that_signs(rt: HostRuntime) -> Result
         text.push_str(back)?;
         let content = read_uri(alloc, text.as_bytes())?;
         let place = sent(alloc, &site, &content)?.map(|sent| sent.0);
-        assert_eq!(rt; place, expected, "{front} {length}");
+        assert!(rt; place == expected, "{front} {length}");
     }
     Ok(())
 }
