@@ -2,6 +2,7 @@
 use Rattle.std.proofs.Common.{◌≡◌, ◌↔◌, ℕ, Bool, true, false, eqb, IsTrue, IfOk, Result, Ok, Err, List, ◌++◌, codes, get_or, Some, inl, inr, refl, sym, ap, ◌∙◌, subst}
 use Rattle.std.proofs.lemmas.Option.{same_Some}
 use Rattle.usp_claims.specs.Table.{text_claim}
+use Rattle.usp_ere.specs.declared.ere.Ere.{Ere}
 use Rattle.usp_json.specs.declared.value.Members.{Members}
 use Rattle.usp_rules.specs.Containers.{Meets, MeetsRegex}
 use Rattle.usp_rules.specs.Kinds.{ReadsAs}
@@ -22,21 +23,11 @@ only_regex text expression uri is (inl hash) = absurd (apart (segment_of uri) ex
 only_regex text expression uri is (inr regex) = regex
 
 -- an expression meets what it finds alone
-pub found_by : (text uri : List ℕ) (container : Container) (expression : List ℕ) (r : Result Bool NoMemory) → text ≡ codes "regex:" ++ expression
-    → IfOk r (λ met. IsTrue met ↔ Meets text uri) → IfOk r (λ found. IsTrue found ↔ MeetsRegex text uri)
-found_by text uri container expression (Err e) is h = h
-found_by text uri container expression (Ok met) is h = ((λ t. only_regex text expression uri is (h.0 t)), (λ regex. h.1 (inr regex)))
-
--- another container finds nothing
-abbrev pub IsOther : Container → Type 0
-IsOther (Hash segment) = Unit {0}
-IsOther (Regex ere) = ⊥
-IsOther Refused = Unit {0}
-
-pub finds_nothing : (text uri : List ℕ) (container : Container) → IsOther container → ReadsAs text container → MeetsRegex text uri → ⊥
-finds_nothing text uri (Hash segment) other reads h = apart segment h.0 (sym reads ∙ h.2)
-finds_nothing text uri (Regex ere) other reads h = other
-finds_nothing text uri Refused other reads h = reads.1 h.0 h.1 h.2 h.3
+pub found_by : (text uri : List ℕ) (container : Container) (ere : Ere) (found : Bool) → container ≡ Regex ere → ReadsAs text container
+    → (IsTrue found ↔ Meets text uri) → (IsTrue found ↔ MeetsRegex text uri)
+found_by text uri container ere found is reads h =
+    let r = subst (λ (c : Container). ReadsAs text c) is reads in
+    ((λ t. only_regex text r.0 uri r.1 (h.0 t)), (λ regex. h.1 (inr regex)))
 
 -- the container of the claims decides
 pub by_container : (m : Members) (text uri : List ℕ) (r : Result Bool NoMemory) → text_claim (codes "cdniuc") m ≡ Some text

@@ -84,3 +84,9 @@ pub none_left : (name : List ℕ) (members : Members) (content : List ℕ) (mome
     → SendsFrom name members content moment 0 routes None
 none_left name members content moment routes place over before =
     before None (subst (λ (rs : List RouteValue). SendsFrom name members content moment place rs None) (sym (drop_all place routes over)) (none place None refl))
+
+-- the same of the edge's own attribute and routes
+pub of_site : (name attribute : List ℕ) (members : Members) (content : List ℕ) (moment : ℕ) (rows routes : List RouteValue) (found : Option (ℕ × Signed)) → name ≡ attribute → rows ≡ routes
+    → SendsFrom name members content moment 0 rows found → SendsFrom attribute members content moment 0 routes found
+of_site name attribute members content moment rows routes found e f h =
+    subst (λ (n : List ℕ). SendsFrom n members content moment 0 routes found) e (subst (λ (rs : List RouteValue). SendsFrom name members content moment 0 rs found) f h)
