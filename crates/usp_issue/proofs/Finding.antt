@@ -9,7 +9,8 @@ use Rattle.usp_rules.specs.Kinds.{ReadsAs}
 use Rattle.usp_rules.specs.Segment.{segment_of}
 use Rattle.usp_rules.specs.declared.container.Container.{Container}
 use Rattle.usp_rules.specs.declared.container.Container.TheVariants.{Hash, Regex, Refused}
-use Rattle.usp_issue.specs.Resignings.{FindsTarget}
+use Rattle.usp_issue.specs.Resignings.{FindsTarget, Resigns, for_route, for_target, target_of}
+use Rattle.usp_issue.specs.Routes.{RouteValue}
 use Rattle.usp_issue.specs.declared.fault.NoMemory.{NoMemory}
 
 -- no container is of both forms
@@ -37,3 +38,23 @@ by_container m text uri (Ok found) claimed h = (
   (λ t. (text, claimed, h.0 t)),
   (λ finds. h.1 (subst (λ (c : List ℕ). MeetsRegex c uri) (same_Some finds.0 text (sym finds.1 ∙ claimed)) finds.2)),
 )
+
+-- ---- the claims that are signed again
+
+-- the container stays
+pub kept : (m copied : Members) (content target : List ℕ) (moment : ℕ) (route : RouteValue) (found : Bool) (r : Result Members NoMemory) → copied ≡ m → target ≡ target_of content route
+    → (IsTrue found ↔ FindsTarget m target) → found ≡ true → IfOk r (λ routed. routed ≡ for_route route moment copied) → IfOk r (λ claims. Resigns m content moment route claims)
+kept m copied content target moment route found (Err e) same at decides hit h = h
+kept m copied content target moment route found (Ok routed) same at decides hit h =
+    inl (subst (λ (t : List ℕ). FindsTarget m t) at (decides.0 hit), h ∙ ap (λ (x : Members). for_route route moment x) same)
+
+-- it is the target alone
+pub narrowed : (m copied changed : Members) (content target : List ℕ) (moment : ℕ) (route : RouteValue) (found : Bool) (r : Result Members NoMemory) → copied ≡ m → target ≡ target_of content route
+    → changed ≡ for_target target copied → (IsTrue found ↔ FindsTarget m target) → found ≡ false → IfOk r (λ routed. routed ≡ for_route route moment changed)
+    → IfOk r (λ claims. Resigns m content moment route claims)
+narrowed m copied changed content target moment route found (Err e) same at is decides miss h = h
+narrowed m copied changed content target moment route found (Ok routed) same at is decides miss h =
+    let never : FindsTarget m (target_of content route) → ⊥
+    = λ f. let both : true ≡ false = sym (decides.1 (subst (λ (t : List ℕ). FindsTarget m t) (sym at) f)) ∙ miss in cc both in
+    let same_claims : changed ≡ for_target (target_of content route) m = is ∙ (ap (λ (t : List ℕ). for_target t copied) at ∙ ap (λ (x : Members). for_target (target_of content route) x) same) in
+    inr (never, h ∙ ap (λ (x : Members). for_route route moment x) same_claims)
