@@ -1,3 +1,4 @@
+pub mod Edges
 pub mod Redirections
 pub mod Renewals
 pub mod Resignings

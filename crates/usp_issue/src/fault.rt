@@ -3,9 +3,9 @@
 ghost use Rattle.std.specs.Prelude.{◌≡◌, ◌↔◌, true};
 ghost use Rattle.usp_issue.specs.declared.fault.IssueFault.TheVariants as fault;
 
-use std::alloc::AllocError;
 use std::error::Error;
 use std::fmt;
+use usp_claims::Claims;
 use usp_uri::MAX_LEN;
 
 /// Why a content is not signed for a route. The first that applies is named.
@@ -57,8 +57,39 @@ impl fmt::Display for NoMemory {
 
 impl Error for NoMemory {}
 
-impl From<AllocError> for NoMemory {
-    fn from(_: AllocError) -> NoMemory {
+impl From<usp_json::NoMemory> for NoMemory {
+    fn from(_: usp_json::NoMemory) -> NoMemory {
+        NoMemory
+    }
+}
+
+impl From<usp_claims::NoMemory> for NoMemory {
+    fn from(_: usp_claims::NoMemory) -> NoMemory {
+        NoMemory
+    }
+}
+
+// The claims that could not be changed are given up.
+impl From<(Claims, usp_claims::NoMemory)> for NoMemory {
+    fn from(_: (Claims, usp_claims::NoMemory)) -> NoMemory {
+        NoMemory
+    }
+}
+
+impl From<usp_jws::NoMemory> for NoMemory {
+    fn from(_: usp_jws::NoMemory) -> NoMemory {
+        NoMemory
+    }
+}
+
+impl From<usp_package::NoMemory> for NoMemory {
+    fn from(_: usp_package::NoMemory) -> NoMemory {
+        NoMemory
+    }
+}
+
+impl From<usp_rules::NoMemory> for NoMemory {
+    fn from(_: usp_rules::NoMemory) -> NoMemory {
         NoMemory
     }
 }
