@@ -1,0 +1,6 @@
+pub mod Chains
+pub mod Descent
+pub mod Grants
+pub mod Issues
+pub mod Laws
+pub mod Sound
