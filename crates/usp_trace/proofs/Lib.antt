@@ -1,4 +1,5 @@
 pub mod Ordered
+pub mod IndexLemmas
 pub mod Origins
 pub mod Chained
 pub mod Replacing

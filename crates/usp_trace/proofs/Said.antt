@@ -1,6 +1,6 @@
 -- What soundness and a met grant say, link by link.
-use Rattle.std.proofs.Common.{◌≡◌, ℕ, zero, suc, ◌<◌, Bool, true, false, codes, List, [], ◌∷◌, ◌++◌, Option, Some, None, IfSome, inl, inr, refl, sym, ap, ◌∙◌, subst}
-use Rattle.std.specs.List.{list_any, slice_get}
+use Rattle.std.proofs.Common.{◌≡◌, ℕ, true, false, codes, List, [], ◌∷◌, ◌++◌, Option, Some, None, IfSome, inl, inr, refl, sym, ap, ◌∙◌, subst}
+use Rattle.std.specs.List.{slice_get}
 use Rattle.std.specs.Option.{is_some, option_and_then}
 use Rattle.usp_claims.specs.Table.{claim}
 use Rattle.usp_issue.specs.Routes.{RouteValue}
@@ -15,8 +15,8 @@ use Rattle.usp_trace.specs.declared.issue.Issue.TheVariants.{Grant, Renewed, Res
 use Rattle.usp_trace.specs.Chains.{Chain, granted, linked, IsChain}
 use Rattle.usp_trace.specs.Grants.{GrantMet, HasIdentity, IsForEdge, IsInTime, IsUseMet, Origin, last_redirection, last_renewal, redirection_behind, redirection_by, renewal_behind, renewal_by, route_at}
 use Rattle.usp_trace.specs.Issues.{Use, parent_of, use_at, use_of}
-use Rattle.usp_trace.specs.Laws.{AreRenewedAt, AreSentBy, HasAudienceOfRoute, IsDirect, IsUnrenewed, IsUseBehind, IsWithinPeriod, WasRenewed, WasResigned, WasUsed, is_redirection, is_renewal}
-use Rattle.usp_trace.specs.Sound.{IsDue, IsUsed, Sound}
+use Rattle.usp_trace.specs.Laws.{AreRenewedAt, AreSentBy, HasAudienceOfRoute, IsDirect, IsUnrenewed, IsUseBehind, IsWithinPeriod, WasRenewed, WasResigned, WasUsed}
+use Rattle.usp_trace.specs.Sound.{IsDue, IsRedirection, IsRenewal, IsUsed, Sound}
 use Rattle.usp_trace.proofs.Chained.{one_grant}
 use Rattle.usp_trace.proofs.Ordered.{first_has, first_least, get_front}
 use Rattle.usp_trace.proofs.Origins.{one_origin}
@@ -58,18 +58,28 @@ same_number a b e = cc
 same_use : (a b : Use) → Some a ≡ Some b → a ≡ b
 same_use a b e = cc
 
+nothing_is : (n : ℕ) → None ≡ Some n → ⊥
+nothing_is n e = cc e
+
 moved_use : (sites : List SiteValue) (ledger : List Issue) (place parent other : ℕ) (asked made : Use) → Some other ≡ Some parent → Some made ≡ Some asked → WasUsed sites ledger place other made
     → WasUsed sites ledger place parent asked
 moved_use sites ledger place parent other asked made is of h =
     subst (λ (n : ℕ). WasUsed sites ledger place n asked) (same_number other parent is) (subst (λ (u : Use). WasUsed sites ledger place other u) (same_use made asked of) h)
 
+renewal_used : (sites : List SiteValue) (ledger : List Issue) (place parent : ℕ) (asked : Use) (token : List ℕ) → IsRenewal sites ledger place parent asked token → WasUsed sites ledger place parent asked
+renewal_used sites ledger place parent asked token due = was_used_at sites ledger place parent asked due.site due.members due.used
+
+redirection_used : (sites : List SiteValue) (ledger : List Issue) (place parent : ℕ) (asked : Use) (route : ℕ) (token : List ℕ) → IsRedirection sites ledger place parent asked route token
+    → WasUsed sites ledger place parent asked
+redirection_used sites ledger place parent asked route token due = was_used_at sites ledger place parent asked due.site due.members due.used
+
 due_used : (sites : List SiteValue) (ledger : List Issue) (place parent : ℕ) (issue : Issue) (asked : Use) → IsDue sites ledger place issue → parent_of issue ≡ Some parent → use_of issue ≡ Some asked
     → WasUsed sites ledger place parent asked
-due_used sites ledger place parent (Grant token) asked due is of = cc
+due_used sites ledger place parent (Grant token) asked due is of = absurd (nothing_is parent is)
 due_used sites ledger place parent (Renewed other edge uri moment token) asked due is of =
-    moved_use sites ledger place parent other asked (use_at edge uri moment) is of (was_used_at sites ledger place other (use_at edge uri moment) due.site due.members due.used)
+    moved_use sites ledger place parent other asked (use_at edge uri moment) is of (renewal_used sites ledger place other (use_at edge uri moment) token due)
 due_used sites ledger place parent (Resigned other edge uri moment route token) asked due is of =
-    moved_use sites ledger place parent other asked (use_at edge uri moment) is of (was_used_at sites ledger place other (use_at edge uri moment) due.site due.members due.used)
+    moved_use sites ledger place parent other asked (use_at edge uri moment) is of (redirection_used sites ledger place other (use_at edge uri moment) route token due)
 
 pub sound_used : (ledger : List Issue) (sites : List SiteValue) (place parent : ℕ) (issue : Issue) (asked : Use) → Sound ledger sites → slice_get ledger place ≡ Some issue → parent_of issue ≡ Some parent
     → use_of issue ≡ Some asked → WasUsed sites ledger place parent asked

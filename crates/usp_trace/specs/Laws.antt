@@ -1,5 +1,5 @@
 -- What soundness and a met grant say of a ledger, link by link: what the laws state.
-use Rattle.std.specs.Prelude.{◌≡◌, ◌⊎◌, ℕ, ◌+◌, ◌<◌, Bool, true, false, List, ◌∷◌, ◌++◌, codes, Option, Some, slice_get}
+use Rattle.std.specs.Prelude.{◌≡◌, ◌⊎◌, ℕ, ◌+◌, ◌<◌, Bool, true, false, List, ◌∷◌, ◌++◌, codes, Some, slice_get}
 use Rattle.std.specs.List.{list_any}
 use Rattle.usp_claims.specs.Table.{period_claim}
 use Rattle.usp_issue.specs.Renewals.{renew}

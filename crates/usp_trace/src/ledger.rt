@@ -1,11 +1,11 @@
 //! The ledger.
 ghost use Rattle.std.specs.Prelude.{◌≡◌, ◌<◌, ◌≤◌, List, ℕ, [], ◌∷◌, ◌++◌, Some, length, slice_get, IfOk, IfErr, IfSome, OnOk, OnErr};
-ghost use Rattle.std.specs.Str.{bytes_eq};
 ghost use Rattle.usp_issue.specs.Sites.{SiteValue};
 ghost use Rattle.usp_trace.specs.Chains.{IsChain, first_place};
-ghost use Rattle.usp_trace.specs.Issues.{parent_of, token_of};
+ghost use Rattle.usp_trace.specs.Issues.{parent_of};
 ghost use Rattle.usp_trace.specs.Sound.{IsDue, Sound};
 
+use crate::issue_list::IssueList;
 use crate::{Issue, MAX_ISSUES, NoMemory};
 use std::alloc::Global;
 use std::marker::Model;
@@ -14,7 +14,7 @@ use std::marker::Model;
 /// first place of its token.
 #[derive(Drop)]
 pub struct Ledger {
-    issues: Vec<Issue>,
+    issues: IssueList,
 }
 
 impl Model for Ledger {
@@ -25,24 +25,9 @@ impl Model for Ledger {
 
     ghost Value = { List Issue };
 
-    ghost view = { λ l. l.issues.items };
+    ghost view = { λ l. l.issues };
 
-    ghost invariant = { λ l. (length l.issues.items ≤ MAX_ISSUES) × IsOrdered l.issues.items };
-}
-
-/// Whether the issue is of that token.
-fn has_token(issue: &Issue, token: &[u8]) -> bool
-    ensures { result ≡ bytes_eq (token_of issue.now) token.now }
-{
-    issue.token().text() == token
-}
-
-/// The first issue of that token.
-fn first_of(issues: &[Issue], token: &[u8]) -> Option<usize>
-    ensures value { result ≡ first_place token.now issues.now }
-    ensures bound { IfSome result (λ place. place < length issues.now) }
-{
-    issues.iter().position(|issue| has_token(issue, token))
+    ghost invariant = { λ l. (length l.issues ≤ MAX_ISSUES) × IsOrdered l.issues };
 }
 
 impl Ledger {
@@ -52,7 +37,7 @@ impl Ledger {
         ensures { result ≡ [] }
     {
         Ledger {
-            issues: Vec::new(alloc),
+            issues: IssueList::new(alloc),
         }
     }
 
@@ -69,11 +54,10 @@ impl Ledger {
         requires { place < length self.now }
         ensures { slice_get self.now place ≡ Some result.now }
     {
-        &self.issues[place as usize]
+        self.issues.get(place as usize)
     }
 
     /// Appends an issue, and answers its place. Where memory runs out the issue comes back.
-    #[tactic(auto, using(crate::proofs::Ordered::more_ordered))]
     pub fn append(&mut self, issue: Issue) -> Result<u32, (Issue, NoMemory)>
         requires few { length self.old < MAX_ISSUES }
         requires parent { IfSome (parent_of issue)
@@ -86,20 +70,15 @@ impl Ledger {
         ensures unchanged { OnErr result (self.new ≡ self.old) }
     {
         let place = self.len();
-        match self.issues.push(issue) {
-            Ok(()) => Ok(place),
-            Err(failed) => Err((failed.value, NoMemory)),
-        }
+        self.issues.push(issue)?;
+        Ok(place)
     }
 
     /// The least place of that token. None exactly where no issue has it.
     pub fn first_place(&self, token: &[u8]) -> Option<u32>
         ensures { result ≡ first_place token.now self.now }
     {
-        match first_of(&self.issues, token) {
-            Some(place) => Some(place as u32),
-            None => None,
-        }
+        self.issues.find(token)
     }
 
     /// The places from a grant to that one, by parents.
