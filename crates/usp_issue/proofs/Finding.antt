@@ -1,5 +1,5 @@
 -- Whether a container is an expression that finds a target.
-use Rattle.std.proofs.Common.{◌≡◌, ◌↔◌, ℕ, Bool, true, false, eqb, IsTrue, IfOk, Result, Ok, Err, List, ◌++◌, codes, get_or, Some, inl, inr, refl, sym, ap, ◌∙◌, subst}
+use Rattle.std.proofs.Common.{◌≡◌, ◌↔◌, ℕ, Bool, true, false, eqb, IsTrue, IfOk, Result, Ok, Err, List, ◌++◌, codes, get_or, Some, inl, inr, sym, ap, ◌∙◌, subst}
 use Rattle.std.proofs.lemmas.Option.{same_Some}
 use Rattle.usp_claims.specs.Table.{text_claim}
 use Rattle.usp_ere.specs.declared.ere.Ere.{Ere}
@@ -8,7 +8,7 @@ use Rattle.usp_rules.specs.Containers.{Meets, MeetsRegex}
 use Rattle.usp_rules.specs.Kinds.{ReadsAs}
 use Rattle.usp_rules.specs.Segment.{segment_of}
 use Rattle.usp_rules.specs.declared.container.Container.{Container}
-use Rattle.usp_rules.specs.declared.container.Container.TheVariants.{Hash, Regex, Refused}
+use Rattle.usp_rules.specs.declared.container.Container.TheVariants.{Regex}
 use Rattle.usp_issue.specs.Resignings.{FindsTarget, Resigns, for_route, for_target, target_of}
 use Rattle.usp_issue.specs.Routes.{RouteValue}
 use Rattle.usp_issue.specs.declared.fault.NoMemory.{NoMemory}

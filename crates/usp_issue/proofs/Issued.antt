@@ -1,5 +1,5 @@
 -- What is issued, put together.
-use Rattle.std.proofs.Common.{◌≡◌, ◌⊎◌, ◌↔◌, ℕ, ◌+◌, ◌<◌, ◌≤◌, true, false, List, ◌∷◌, length, Option, Some, None, Ok, inl, inr, refl}
+use Rattle.std.proofs.Common.{◌≡◌, ◌⊎◌, ℕ, ◌+◌, ◌<◌, ◌≤◌, true, false, List, ◌∷◌, length, Option, Some, Ok, inr, refl}
 use Rattle.std.specs.Option.{is_some}
 use Rattle.usp_base.specs.Cuts.{after_prefix}
 use Rattle.usp_json.specs.Canon.{canon_members}

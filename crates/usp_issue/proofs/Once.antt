@@ -8,7 +8,7 @@ use Rattle.usp_json.proofs.KeepLaws.{reading_keeps}
 use Rattle.usp_json.proofs.WideLaws.{members_wider_kept, reading_wider}
 use Rattle.usp_json.specs.Canon.{canon_members}
 use Rattle.usp_json.specs.Grammar.{IsBytes}
-use Rattle.usp_json.specs.Kept.{KeepsLimits, KeepsWithin}
+use Rattle.usp_json.specs.Kept.{KeepsWithin}
 use Rattle.usp_json.specs.Spells.{IsReading, with_a_member_more}
 use Rattle.usp_json.specs.declared.value.Members.{Members}
 use Rattle.usp_jws.proofs.Once.{b64u_once}

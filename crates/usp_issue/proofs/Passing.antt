@@ -1,5 +1,5 @@
 -- A token that was renewed, or signed again, is valid.
-use Rattle.std.proofs.Common.{◌≡◌, ℕ, ◌+◌, ◌<◌, ◌≤◌, Bool, true, false, not, ◌&&◌, ◌||◌, ◌==◌, codes, List, [], ◌∷◌, ◌++◌, length, Option, Some, None, inl, inr, refl, sym, ap, ◌∙◌, subst, arith}
+use Rattle.std.proofs.Common.{◌≡◌, ℕ, ◌<◌, ◌≤◌, Bool, true, false, not, ◌&&◌, ◌||◌, ◌==◌, codes, List, [], ◌∷◌, ◌++◌, length, Option, Some, None, inl, inr, refl, sym, ap, ◌∙◌, subst, arith}
 use Rattle.std.specs.Prelude.{nat_le, slice_get}
 use Rattle.std.specs.List.{list_all, list_any}
 use Rattle.std.specs.Option.{is_some, option_and_then, option_map, option_map_or}
@@ -9,14 +9,13 @@ use Rattle.std.proofs.lemmas.Slice.Eq.{bytes_eq-Decides}
 use Rattle.usp_base.specs.declared.clock.TheConstants.{MOMENT_BOUND}
 use Rattle.usp_claims.proofs.Decimals.{text_of}
 use Rattle.usp_claims.proofs.Rows.{tells}
-use Rattle.usp_claims.specs.Table.{IsClaimSet, claim, is_audience, text_claim, whole_in}
+use Rattle.usp_claims.specs.Table.{claim, is_audience, whole_in}
 use Rattle.usp_claims.specs.declared.limits.TheConstants.{MAX_NUMBER, MAX_PAYLOAD}
 use Rattle.usp_json.proofs.ByteLaws.{reading_bytes}
 use Rattle.usp_json.proofs.CanonLaws.{reads_back}
 use Rattle.usp_json.proofs.KeepLaws.{reading_keeps}
 use Rattle.usp_json.specs.Canon.{canon_members}
 use Rattle.usp_json.specs.Entries.{entries}
-use Rattle.usp_json.specs.Kept.{KeepsLimits}
 use Rattle.usp_json.specs.Scalars.{text_in}
 use Rattle.usp_json.specs.Spells.{given}
 use Rattle.usp_json.specs.Values.{is_this, lists}
@@ -29,16 +28,15 @@ use Rattle.usp_jws.proofs.Sealing.{length-sealed, sealed_has_parts, sealed_heade
 use Rattle.usp_jws.proofs.Tokens.{same_bytes}
 use Rattle.usp_jws.specs.Compact.{IsToken}
 use Rattle.usp_jws.specs.Headers.{IsHeader}
-use Rattle.usp_jws.specs.Keys.{KeyValue, first_repeat}
+use Rattle.usp_jws.specs.Keys.{KeyValue}
 use Rattle.usp_jws.specs.Letters.{has_identity, is_identity, is_kid, is_kid_letter}
 use Rattle.usp_jws.specs.Parts.{PartsValue, text_of as parts_text}
 use Rattle.usp_jws.specs.Sealed.{sealed}
-use Rattle.usp_jws.specs.declared.limits.TheConstants.{MAX_KID, MAX_TOKEN}
+use Rattle.usp_jws.specs.declared.limits.TheConstants.{MAX_KID}
 use Rattle.usp_rules.proofs.Firsts.{claims_here, header_here, verified_here}
 use Rattle.usp_rules.proofs.Single.{one_claims}
 use Rattle.usp_rules.specs.Asks.{Presented}
 use Rattle.usp_rules.specs.Constraints.{IsContained, is_begun, is_critical_met, is_for, is_issued, is_plain, is_renewable, is_unexpired, is_version_1}
-use Rattle.usp_rules.specs.Containers.{Meets}
 use Rattle.usp_rules.specs.Rules.{Meets as MeetsRule, Valid, Wants}
 use Rattle.usp_rules.specs.Segment.{segment_of}
 use Rattle.usp_rules.specs.Tokens.{Claims, HasClaims, HasHeader, IsVerified, SpellsClaims}

@@ -1,15 +1,12 @@
 -- Why a content is not signed for a route, and what that says of the routes.
-use Rattle.std.proofs.Common.{◌≡◌, ◌≢◌, ◌⊎◌, ◌↔◌, ℕ, ◌+◌, ◌<◌, ◌≤◌, Bool, true, false, IsTrue, cond, List, [], ◌∷◌, length, drop, get_or, Option, Some, None, Result, Ok, Err, IfOk, IfErr, MatchOption, inl, inr, refl, sym, ap, ◌∙◌, subst, add-one, drop-cons}
-use Rattle.std.specs.Option.{is_some}
+use Rattle.std.proofs.Common.{◌≡◌, ◌≢◌, ◌⊎◌, ℕ, ◌+◌, ◌<◌, ◌≤◌, Bool, true, false, cond, List, ◌∷◌, length, drop, get_or, Option, Some, None, Ok, Err, inl, inr, refl, sym, ap, ◌∙◌, subst, add-one, drop-cons}
 use Rattle.std.proofs.lemmas.List.{drop_all}
-use Rattle.usp_base.specs.Cuts.{after_prefix}
 use Rattle.usp_json.specs.declared.value.Members.{Members}
 use Rattle.usp_uri.specs.Answers.{Gives}
-use Rattle.usp_uri.specs.Components.{path_in}
 use Rattle.usp_uri.specs.Origin.{Origin, moved_of, moved_text}
 use Rattle.usp_uri.specs.declared.fault.UriFault.{UriFault}
 use Rattle.usp_uri.specs.declared.fault.UriFault.TheVariants as fault
-use Rattle.usp_issue.specs.Redirections.{IsPresent, IsTooLong, RefusesSigning, SendsFrom, Signs, elsewhere, none, refused as refused_route, sends}
+use Rattle.usp_issue.specs.Redirections.{IsPresent, IsTooLong, RefusesSigning, SendsFrom, none}
 use Rattle.usp_issue.specs.Resignings.{target_of}
 use Rattle.usp_issue.specs.Routes.{RouteValue}
 use Rattle.usp_issue.specs.declared.fault.IssueFault.{IssueFault}

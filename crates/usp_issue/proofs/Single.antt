@@ -1,5 +1,5 @@
 -- A content is signed for a route in one way, or refused for one reason, and sent on in one way.
-use Rattle.std.proofs.Common.{◌≡◌, ◌⊎◌, ℕ, ◌+◌, ◌<◌, ◌≤◌, true, false, List, [], ◌∷◌, length, Option, Some, None, Result, Ok, Err, inl, inr, refl, sym, ap, ◌∙◌, subst, arith}
+use Rattle.std.proofs.Common.{◌≡◌, ◌⊎◌, ℕ, ◌+◌, true, false, List, length, Option, Some, Result, Ok, Err, inl, inr, sym, ap, ◌∙◌, subst, arith}
 use Rattle.std.specs.Option.{is_some}
 use Rattle.usp_base.specs.Cuts.{after_prefix}
 use Rattle.usp_json.specs.Canon.{canon_members}
@@ -8,7 +8,6 @@ use Rattle.usp_jws.specs.Sealed.{sealed}
 use Rattle.usp_package.specs.Package.{embedded, nothing, package_of}
 use Rattle.usp_uri.specs.Components.{path_in, query_in}
 use Rattle.usp_uri.specs.Origin.{moved_of}
-use Rattle.usp_uri.specs.declared.fault.TheConstants.{MAX_LEN}
 use Rattle.usp_uri.specs.declared.fault.UriFault.{UriFault}
 use Rattle.usp_uri.specs.declared.fault.UriFault.TheVariants as fault
 use Rattle.usp_issue.specs.Redirections.{IsLocationTooLong, IsPresent, IsTooLong, SendsFrom, Signs, elsewhere, none, refused, sends}

@@ -1,6 +1,6 @@
 //! Claims with one of them replaced.
 
-ghost use Rattle.std.specs.Prelude.{◌≡◌, ◌≤◌, ◌<◌, ◌+◌, ◌++◌, codes, length, true, IfOk};
+ghost use Rattle.std.specs.Prelude.{◌≡◌, ◌≤◌, ◌+◌, length, IfOk};
 ghost use Rattle.std.specs.Fmt.{decimal};
 ghost use Rattle.std.specs.Option.{is_some};
 ghost use Rattle.usp_claims.specs.Changes.{with_claim};
@@ -9,7 +9,6 @@ ghost use Rattle.usp_claims.specs.declared.limits.TheConstants.{MAX_CANONICAL, M
 ghost use Rattle.usp_claims.specs.declared.table.ClaimName.TheVariants.{Aud, Exp, Iat, Iss};
 ghost use Rattle.usp_json.specs.Canon.{canon, canon_members};
 ghost use Rattle.usp_json.specs.declared.value.Json.TheVariants.{Num, Str};
-ghost use Rattle.usp_jws.specs.Letters.{is_identity};
 ghost use Rattle.usp_issue.specs.Renewals.{with_present};
 ghost use Rattle.usp_issue.specs.Resignings.{for_target};
 ghost use Rattle.usp_issue.specs.declared.limits.TheConstants.{CONTAINER_GROWTH, IDENTITY_GROWTH, MAX_CHANGED, MOMENT_GROWTH};
@@ -37,8 +36,8 @@ fn with_claim(
     value: Json,
 ) -> Result<Claims, NoMemory>
     requires set { IsClaimSet claims → IsClaimSet (with_claim name value claims) }
-    requires short { length (canon_members claims) + (length (name_of name) + 4 + length (canon value))
-        ≤ MAX_CANONICAL }
+    requires short { length (canon_members claims)
+        + (length (name_of name) + 4 + length (canon value)) ≤ MAX_CANONICAL }
     ensures changed { IfOk result (λ changed. changed ≡ with_claim name value claims) }
     ensures growth { IfOk result (λ changed. length (canon_members changed)
         ≤ length (canon_members claims) + (length (name_of name) + 4 + length (canon value))) }
@@ -56,8 +55,8 @@ fn with_present(
     value: Json,
 ) -> Result<Claims, NoMemory>
     requires set { IsClaimSet claims → IsClaimSet (with_claim name value claims) }
-    requires short { length (canon_members claims) + (length (name_of name) + 4 + length (canon value))
-        ≤ MAX_CANONICAL }
+    requires short { length (canon_members claims)
+        + (length (name_of name) + 4 + length (canon value)) ≤ MAX_CANONICAL }
     ensures changed { IfOk result (λ changed. changed ≡ with_present name value claims) }
     ensures growth { IfOk result (λ changed. length (canon_members changed)
         ≤ length (canon_members claims) + (length (name_of name) + 4 + length (canon value))) }
@@ -102,7 +101,8 @@ fn moment_of(alloc: Global, moment: u64) -> Result<Json, NoMemory>
 #[tactic(auto, using(crate::proofs::Fitting::issuer_set))]
 pub(crate) fn with_issuer(alloc: Global, claims: Claims, key: &Key) -> Result<Claims, NoMemory>
     requires { length (canon_members claims) ≤ MAX_CHANGED }
-    ensures changed { IfOk result (λ changed. changed ≡ with_present Iss (Str key.now.issuer) claims) }
+    ensures changed { IfOk result (λ changed.
+        changed ≡ with_present Iss (Str key.now.issuer) claims) }
     ensures growth { IfOk result (λ changed.
         length (canon_members changed) ≤ length (canon_members claims) + IDENTITY_GROWTH) }
 {
@@ -118,7 +118,8 @@ pub(crate) fn with_audience(
     route: &Route,
 ) -> Result<Claims, NoMemory>
     requires { length (canon_members claims) ≤ MAX_CHANGED }
-    ensures changed { IfOk result (λ changed. changed ≡ with_present Aud (Str route.now.audience) claims) }
+    ensures changed { IfOk result (λ changed.
+        changed ≡ with_present Aud (Str route.now.audience) claims) }
     ensures growth { IfOk result (λ changed.
         length (canon_members changed) ≤ length (canon_members claims) + IDENTITY_GROWTH) }
 {
@@ -131,7 +132,8 @@ pub(crate) fn with_audience(
 pub(crate) fn with_moment(alloc: Global, claims: Claims, moment: u64) -> Result<Claims, NoMemory>
     requires short { length (canon_members claims) ≤ MAX_CHANGED }
     requires early { moment ≤ MAX_NUMBER }
-    ensures changed { IfOk result (λ changed. changed ≡ with_present Iat (Num (decimal moment)) claims) }
+    ensures changed { IfOk result (λ changed.
+        changed ≡ with_present Iat (Num (decimal moment)) claims) }
     ensures growth { IfOk result (λ changed.
         length (canon_members changed) ≤ length (canon_members claims) + MOMENT_GROWTH) }
 {
@@ -144,7 +146,8 @@ pub(crate) fn with_moment(alloc: Global, claims: Claims, moment: u64) -> Result<
 pub(crate) fn with_expiry(alloc: Global, claims: Claims, moment: u64) -> Result<Claims, NoMemory>
     requires short { length (canon_members claims) ≤ MAX_CHANGED }
     requires early { moment ≤ MAX_NUMBER }
-    ensures changed { IfOk result (λ changed. changed ≡ with_claim Exp (Num (decimal moment)) claims) }
+    ensures changed { IfOk result (λ changed.
+        changed ≡ with_claim Exp (Num (decimal moment)) claims) }
     ensures growth { IfOk result (λ changed.
         length (canon_members changed) ≤ length (canon_members claims) + MOMENT_GROWTH) }
 {

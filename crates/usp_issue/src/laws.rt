@@ -33,7 +33,8 @@ ghost use Rattle.usp_issue.specs.declared.signed.Signed.{Signed};
 /// the moment where they had one, the container of before or the target alone, and else what they had.
 pub fn changes_few_claims()
     ensures period { (m : Members) (moment : ℕ) (key : KeyValue) (period : ℕ)
-        → claim (codes "exp") (for_period m moment key period) ≡ Some (Num (decimal (moment + period))) }
+        → claim (codes "exp") (for_period m moment key period)
+        ≡ Some (Num (decimal (moment + period))) }
     ensures renewed_issuer { (m : Members) (moment : ℕ) (key : KeyValue) (period : ℕ)
         → claim (codes "iss") (for_period m moment key period)
         ≡ option_map (λ old. Str key.issuer) (claim (codes "iss") m) }
@@ -44,33 +45,44 @@ pub fn changes_few_claims()
         → bytes_eq name (codes "exp") ≡ false → bytes_eq name (codes "iss") ≡ false
         → bytes_eq name (codes "iat") ≡ false
         → claim name (for_period m moment key period) ≡ claim name m }
-    ensures audience { (m : Members) (content : List ℕ) (moment : ℕ) (route : RouteValue) (claims : Members)
+    ensures audience { (m : Members) (content : List ℕ) (moment : ℕ) (route : RouteValue)
+        (claims : Members)
         → Resigns m content moment route claims
-        → claim (codes "aud") claims ≡ option_map (λ old. Str route.audience) (claim (codes "aud") m) }
-    ensures issuer { (m : Members) (content : List ℕ) (moment : ℕ) (route : RouteValue) (claims : Members)
+        → claim (codes "aud") claims
+        ≡ option_map (λ old. Str route.audience) (claim (codes "aud") m) }
+    ensures issuer { (m : Members) (content : List ℕ) (moment : ℕ) (route : RouteValue)
+        (claims : Members)
         → Resigns m content moment route claims
-        → claim (codes "iss") claims ≡ option_map (λ old. Str route.key.issuer) (claim (codes "iss") m) }
-    ensures moment { (m : Members) (content : List ℕ) (moment : ℕ) (route : RouteValue) (claims : Members)
+        → claim (codes "iss") claims
+        ≡ option_map (λ old. Str route.key.issuer) (claim (codes "iss") m) }
+    ensures moment { (m : Members) (content : List ℕ) (moment : ℕ) (route : RouteValue)
+        (claims : Members)
         → Resigns m content moment route claims
-        → claim (codes "iat") claims ≡ option_map (λ old. Num (decimal moment)) (claim (codes "iat") m) }
-    ensures container { (m : Members) (content : List ℕ) (moment : ℕ) (route : RouteValue) (claims : Members)
+        → claim (codes "iat") claims
+        ≡ option_map (λ old. Num (decimal moment)) (claim (codes "iat") m) }
+    ensures container { (m : Members) (content : List ℕ) (moment : ℕ) (route : RouteValue)
+        (claims : Members)
         → Resigns m content moment route claims
         → (claim (codes "cdniuc") claims ≡ claim (codes "cdniuc") m)
-        ⊎ (text_claim (codes "cdniuc") claims ≡ Some (codes "hash:" ++ segment_of (target_of content route))) }
-    ensures rest { (m : Members) (content : List ℕ) (moment : ℕ) (route : RouteValue) (claims : Members)
-        (name : List ℕ) → Resigns m content moment route claims → bytes_eq name (codes "aud") ≡ false
+        ⊎ (text_claim (codes "cdniuc") claims
+        ≡ Some (codes "hash:" ++ segment_of (target_of content route))) }
+    ensures rest { (m : Members) (content : List ℕ) (moment : ℕ) (route : RouteValue)
+        (claims : Members) (name : List ℕ) → Resigns m content moment route claims
+        → bytes_eq name (codes "aud") ≡ false
         → bytes_eq name (codes "iss") ≡ false → bytes_eq name (codes "iat") ≡ false
         → bytes_eq name (codes "cdniuc") ≡ false → claim name claims ≡ claim name m }
 {}
 
 /// What is issued over the claims of a token is read as the claims that were sealed, or is not read.
 pub fn reads_what_was_sealed()
-    ensures renewed { (m claims read : Members) (token content : List ℕ) (moment : ℕ) (key : KeyValue)
-        → is_identity key.issuer ≡ true → moment < MOMENT_BOUND → Claims token m
+    ensures renewed { (m claims read : Members) (token content : List ℕ) (moment : ℕ)
+        (key : KeyValue) → is_identity key.issuer ≡ true → moment < MOMENT_BOUND → Claims token m
         → renew m content moment key ≡ Some claims → Claims (sealed key (canon_members claims)) read
         → read ≡ claims }
-    ensures resigned { (m claims read : Members) (token content : List ℕ) (moment : ℕ) (route : RouteValue)
-        → is_identity route.key.issuer ≡ true → is_identity route.audience ≡ true → moment < MOMENT_BOUND
+    ensures resigned { (m claims read : Members) (token content : List ℕ) (moment : ℕ)
+        (route : RouteValue) → is_identity route.key.issuer ≡ true
+        → is_identity route.audience ≡ true
+        → moment < MOMENT_BOUND
         → Claims token m → Resigns m content moment route claims
         → Claims (sealed route.key (canon_members claims)) read → read ≡ claims }
 {}
@@ -78,18 +90,22 @@ pub fn reads_what_was_sealed()
 /// A content is signed for a route in one way, or it is refused for one reason. So it is sent on in one
 /// way.
 pub fn sends_in_one_way()
-    ensures signed { (name : List ℕ) (m : Members) (content : List ℕ) (moment : ℕ) (route : RouteValue)
-        (a b : Signed) → Signs name m content moment route a → Signs name m content moment route b → a ≡ b }
-    ensures too_long { (name : List ℕ) (m : Members) (content : List ℕ) (moment : ℕ) (route : RouteValue)
-        (signed : Signed) → Signs name m content moment route signed
+    ensures signed { (name : List ℕ) (m : Members) (content : List ℕ) (moment : ℕ)
+        (route : RouteValue) (a b : Signed) → Signs name m content moment route a
+        → Signs name m content moment route b → a ≡ b }
+    ensures too_long { (name : List ℕ) (m : Members) (content : List ℕ) (moment : ℕ)
+        (route : RouteValue) (signed : Signed) → Signs name m content moment route signed
         → IsTooLong name m content moment route → ⊥ }
-    ensures present { (name : List ℕ) (m : Members) (content : List ℕ) (moment : ℕ) (route : RouteValue)
-        (signed : Signed) → Signs name m content moment route signed → IsPresent name content route → ⊥ }
-    ensures reason { (name : List ℕ) (m : Members) (content : List ℕ) (moment : ℕ) (route : RouteValue)
+    ensures present { (name : List ℕ) (m : Members) (content : List ℕ) (moment : ℕ)
+        (route : RouteValue) (signed : Signed) → Signs name m content moment route signed
+        → IsPresent name content route → ⊥ }
+    ensures reason { (name : List ℕ) (m : Members) (content : List ℕ) (moment : ℕ)
+        (route : RouteValue)
         → IsTooLong name m content moment route → IsPresent name content route → ⊥ }
     ensures sent { (name : List ℕ) (m : Members) (content : List ℕ) (moment place : ℕ)
         (routes : List RouteValue) (a b : Option (ℕ × Signed))
-        → SendsFrom name m content moment place routes a → SendsFrom name m content moment place routes b
+        → SendsFrom name m content moment place routes a
+        → SendsFrom name m content moment place routes b
         → a ≡ b }
 {}
 
@@ -100,8 +116,10 @@ pub fn sends_in_one_way()
 /// and the edge must understand what they call critical.
 pub fn issued_tokens_pass()
     ensures renewed { (profile : Profile) (shown : Presented) (m : Members) (key : KeyValue)
-        (used token content : List ℕ) (later : ℕ) (renewed : IsRenewed m used shown.moment key token)
-        → Valid profile shown → shown.moment < MOMENT_BOUND → Claims shown.token m → Knows profile key
+        (used token content : List ℕ) (later : ℕ)
+        (renewed : IsRenewed m used shown.moment key token)
+        → Valid profile shown → shown.moment < MOMENT_BOUND → Claims shown.token m
+        → Knows profile key
         → length (canon_members renewed.claims) ≤ MAX_PAYLOAD
         → length (entries renewed.claims) ≤ MAX_MEMBERS
         → IsContained (Some content) renewed.claims → AreUsable profile renewed.claims content later
@@ -113,5 +131,6 @@ pub fn issued_tokens_pass()
         → Knows there route.key → has_identity there.audience route.audience ≡ true
         → length (canon_members resigned.claims) ≤ MAX_PAYLOAD
         → AreUsable there resigned.claims (target_of content route) later
-        → Valid there (record { token = token; content = Some (target_of content route); moment = later }) }
+        → Valid there
+        (record { token = token; content = Some (target_of content route); moment = later }) }
 {}

@@ -37,8 +37,10 @@ fn signed_for(
     ensures signed { IfOk result (λ signed. MatchOption signed
         (IsTooLong name.now used.now.claims.now used.now.content.now used.now.moment route.now
         ⊎ IsPresent name.now used.now.content.now route.now)
-        (λ signed. Signs name.now used.now.claims.now used.now.content.now used.now.moment route.now signed)) }
-    ensures short { IfOk result (λ signed. IfSome signed (λ signed. length signed.token ≤ MAX_TOKEN)) }
+        (λ signed. Signs name.now used.now.claims.now used.now.content.now used.now.moment
+        route.now signed)) }
+    ensures short { IfOk result (λ signed. IfSome signed (λ signed.
+        length signed.token ≤ MAX_TOKEN)) }
 {
     let fault = match resigned(alloc, name, used, route) {
         Ok(signed) => return Ok(Some(signed)),
