@@ -186,7 +186,10 @@ pub fn text(alloc: Global, claims: &Claims) -> Result<Vec<u8>, NoMemory>
 impl Claims {
     /// The claims as members, in their order.
     pub fn members(&self) -> &Members
-        ensures { result.now ≡ self.now }
+        ensures value { result.now ≡ self.now }
+        ensures bound { length (canon_members self.now) ≤ MAX_CANONICAL }
+        ensures named { AreNamed self.now }
+        ensures set { IsClaimSet self.now }
     {
         &self.members
     }

@@ -43,7 +43,7 @@ fn with_claim(
         ≤ length (canon_members claims) + (length (name_of name) + 4 + length (canon value))) }
 {
     // Says that they are a claim set.
-    let _ = claims.text_len();
+    let _ = claims.members();
     Ok(claims.with(alloc, name, value)?)
 }
 
