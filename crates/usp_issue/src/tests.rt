@@ -3,8 +3,7 @@ ghost use Rattle.std.specs.Prelude.{◌≡◌};
 ghost use Rattle.usp_issue.specs.Sites.{is_own};
 
 use crate::{
-    IssueFault, MAX_CLAIMS, MAX_TOKEN, NoMemory, Route, Signed, Site, Use, redirect, renewed,
-    resigned,
+    IssueFault, MAX_ROUTES, NoMemory, Route, Signed, Site, Use, redirect, renewed, resigned,
 };
 use std::alloc::Global;
 use std::test::Fail;
@@ -15,7 +14,7 @@ use usp_json::Text;
 use usp_jws::{Key, MAX_PAYLOAD, Ring, Token, has_identity, is_identity, seal};
 use usp_package::AttrName;
 use usp_rules::Profile;
-use usp_uri::{MAX_LEN, Place, Uri, read_uri};
+use usp_uri::{Place, Uri, read_uri};
 
 fn attribute() -> Result<AttrName, Fail> {
     match AttrName::new(b"URISigningPackage") {
@@ -303,7 +302,13 @@ fn site_of(alloc: Global) -> Result<Site, Fail> {
     routes.push(route_to(alloc, "/c/", "c.example")?)?;
     routes.push(route_to(alloc, "/b/", "bb.example")?)?;
     routes.push(route_to(alloc, "/b/", "b.example")?)?;
+    if routes.len() > MAX_ROUTES {
+        return Err(Fail::new("few routes"));
+    }
     let profile = profile_of(alloc)?;
+    if profile.ring.keys().is_empty() {
+        return Err(Fail::new("a key"));
+    }
     if !is_own(&profile) {
         return Err(Fail::new("an own key"));
     }
