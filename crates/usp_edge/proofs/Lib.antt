@@ -1,0 +1,9 @@
+pub mod Steps
+pub mod Bounds
+pub mod Doing
+pub mod Going
+pub mod Counting
+pub mod Answering
+pub mod Requested
+pub mod Honesty
+pub mod Showing
