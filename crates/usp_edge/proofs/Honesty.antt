@@ -75,7 +75,7 @@ sent_later name members content moment from first routes place signed sent = rec
 }
 
 pair_same : {A B : Type 0} (a a2 : A) (b b2 : B) → Some (a, b) ≡ Some (a2, b2) → (a ≡ a2) × (b ≡ b2)
-pair_same a a2 b b2 e = let same : (a, b) ≡ (a2, b2) = some_same _ _ e in (ap (λ p. p.0) same, ap (λ p. p.1) same)
+pair_same a a2 b b2 e = let same : (a, b) ≡ (a2, b2) = some_same (a, b) (a2, b2) e in (ap (λ (p : A × B). p.0) same, ap (λ (p : A × B). p.1) same)
 
 sent_at : (name : List ℕ) (members : Members) (content : List ℕ) (moment from : ℕ) (routes : List RouteValue) (place : ℕ) (signed : Signed) (found : Option (ℕ × Signed))
     → SendsFrom name members content moment from routes found → found ≡ Some (place, signed) → Sent name members content moment from routes place signed
@@ -129,7 +129,7 @@ module _ (conf : ConfValue) (ask : AskValue) where
   }
 
   -- what passes rules 1 to 15 was brought, and is valid
-  admission : (content token : List ℕ) (members : Members) (key : ℕ) (v : Verdict) (call : Option Turned) (route : Option ℕ) (issued : Option (List ℕ)) (status : ℕ)
+  abbrev admission : (content token : List ℕ) (members : Members) (key : ℕ) (v : Verdict) (call : Option Turned) (route : Option ℕ) (issued : Option (List ℕ)) (status : ℕ)
       → Judges conf.site.profile ask (judged.Passed content token members key) → IsAdmission conf (note_from conf ask v call route issued status)
   admission content token members key v call route issued status judges =
       let admitted = admits conf.site.profile ask content token members key judges in

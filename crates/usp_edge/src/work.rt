@@ -98,6 +98,6 @@ pub(crate) fn work_on<N: Nonces, C: Clock, O: Objects>(
     }
     match request.head.method {
         Method::Other => method_text(request),
-        Method::Get | Method::Bare => work_request(request, nonces, clock, objects, journal),
+        _ => work_request(request, nonces, clock, objects, journal),
     }
 }
