@@ -7,3 +7,5 @@ pub mod Answering
 pub mod Requested
 pub mod Honesty
 pub mod Showing
+pub mod OneWork
+pub mod OneSession

@@ -10,3 +10,4 @@ pub mod Halts
 pub mod Serving
 pub mod Requests
 pub mod Honest
+pub mod Once

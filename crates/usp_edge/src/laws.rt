@@ -1,10 +1,12 @@
 //! Laws of sessions. Each is a theorem for the crates above.
 
-ghost use Rattle.std.specs.Prelude.{List, ℕ};
+ghost use Rattle.std.specs.Prelude.{◌≡◌, ◌⊎◌, List, ℕ};
+ghost use Rattle.httparse.specs.Grammar.{EndsInTarget};
 ghost use Rattle.usp_conf.specs.Values.{ConfValue};
-ghost use Rattle.usp_http.specs.Finding.{Stop};
+ghost use Rattle.usp_http.specs.Finding.{Stop, progress};
 ghost use Rattle.usp_edge.specs.Halts.{StarvedSession, BrokenSession};
 ghost use Rattle.usp_edge.specs.Honest.{AreHonest, AreMoments, AreShown};
+ghost use Rattle.usp_edge.specs.Once.{MeetAlike};
 ghost use Rattle.usp_edge.specs.Session.{Progress, Session};
 ghost use Rattle.usp_edge.specs.declared.end.End.{End};
 
@@ -31,4 +33,12 @@ pub fn notes_its_calls()
         → AreShown progress.calls progress.notes × AreMoments progress.moments progress.notes }
     ensures wants { (conf : ConfValue) (bytes : List ℕ) (progress : Progress) → StarvedSession conf bytes progress
         → AreShown progress.calls progress.notes }
+{}
+
+/// Of the same bytes, with the same moments, nonce calls and answers of the objects, a connection has one outcome,
+/// but where they end inside a target: there no head may come, and nothing tells that yet.
+pub fn has_one_outcome()
+    ensures { (conf : ConfValue) (bytes : List ℕ) (stop : Stop) (f g : Progress) (a b : End)
+        → Session conf bytes stop f a → Session conf bytes stop g b → MeetAlike f g
+        → ((f ≡ g) × (a ≡ b)) ⊎ EndsInTarget (progress f.rest) }
 {}

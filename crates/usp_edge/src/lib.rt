@@ -27,12 +27,14 @@ mod objects;
 mod prepared;
 mod replies;
 mod request;
+#[cfg(test)]
+mod tests;
 mod work;
 
 pub use connection::serve_connection;
 pub use edge::Edge;
 pub use end::End;
-pub use laws::{notes_honestly, notes_its_calls};
+pub use laws::{has_one_outcome, notes_honestly, notes_its_calls};
 pub use limits::{MAX_HEADS, limits_are_told};
 pub use nonces::Nonces;
 pub use note::{Note, Verdict};
