@@ -3,7 +3,7 @@
 ghost use Rattle.std.specs.Prelude.{◌≡◌, ◌⊎◌, List, ℕ};
 ghost use Rattle.httparse.specs.Grammar.{EndsInTarget};
 ghost use Rattle.usp_conf.specs.Values.{ConfValue};
-ghost use Rattle.usp_http.specs.Finding.{Stop, progress};
+ghost use Rattle.usp_http.specs.Finding.{Stop, front};
 ghost use Rattle.usp_edge.specs.Halts.{StarvedSession, BrokenSession};
 ghost use Rattle.usp_edge.specs.Honest.{AreHonest, AreMoments, AreShown};
 ghost use Rattle.usp_edge.specs.Once.{MeetAlike};
@@ -40,5 +40,5 @@ pub fn notes_its_calls()
 pub fn has_one_outcome()
     ensures { (conf : ConfValue) (bytes : List ℕ) (stop : Stop) (f g : Progress) (a b : End)
         → Session conf bytes stop f a → Session conf bytes stop g b → MeetAlike f g
-        → ((f ≡ g) × (a ≡ b)) ⊎ EndsInTarget (progress f.rest) }
+        → ((f ≡ g) × (a ≡ b)) ⊎ EndsInTarget (front f.rest) }
 {}
