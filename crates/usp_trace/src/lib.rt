@@ -17,8 +17,6 @@ mod issue_list;
 mod laws;
 mod ledger;
 mod limits;
-#[cfg(test)]
-mod tests;
 
 pub use fault::NoMemory;
 pub use issue::Issue;
