@@ -43,7 +43,7 @@ struct Form(Member);
 
 impl fmt::Display for Form {
     fn fmt<W: fmt::Write>(&self, f: &mut fmt::Formatter<W>) -> fmt::Result {
-        let text = self.0.wanted();
+        let text = self.0.form();
         match self.0 {
             Member::Secret => write!(f, "{text}, {MIN_SECRET} to {MAX_SECRET} of them"),
             _ => write!(f, "{text}"),

@@ -55,7 +55,7 @@ impl Member {
     }
 
     /// What must stand there, for a reader of a refusal.
-    pub fn wanted(self) -> &'static str {
+    pub fn form(self) -> &'static str {
         match self {
             Member::Edge | Member::Issuer => "a text that is an identity",
             Member::Scheme => "\"http\" or \"https\"",

@@ -6,7 +6,7 @@ use Rattle.usp_base.specs.Runs.{Runs, none, more}
 use Rattle.httparse.specs.Grammar.{NeverHasRequest, ReadsRequest, print_request}
 use Rattle.httparse.proofs.GrammarLemmas.{ReadsRequest-append}
 use Rattle.usp_http.specs.Fronts.{HasManyFields, IsUnfinished, IsWhole}
-use Rattle.usp_http.specs.Finding.{Answers, Around, Finds, Held, HoldsHead, Stop, Stops, broken, enough, front, over}
+use Rattle.usp_http.specs.Finding.{AnswersHead, Around, Finds, Held, HoldsHead, Stop, Stops, broken, enough, front, over}
 use Rattle.usp_http.specs.Pauses.{stop_of}
 use Rattle.usp_http.specs.declared.head.Head.{Head}
 use Rattle.usp_http.specs.declared.next.Next.{Next}
@@ -91,7 +91,7 @@ none_held old held left left' read unfinished (h, rest, reads) =
 
 -- the answer at a stop, by what is found in what is held
 pub answered : (old held after : List ℕ) (around : Around) (stop : Stop) (result : Next) → Held old held around.left around.left_after
-    → Stops stop around.ended around.left_after around.faults around.faults_after → Finds result held stop after → Answers around old after result
+    → Stops stop around.ended around.left_after around.faults around.faults_after → Finds result held stop after → AnswersHead around old after result
 answered old held after around stop result read stops finds = record {
   bytes = read.bytes;
   stop = stop;
@@ -100,7 +100,7 @@ answered old held after around stop result read stops finds = record {
 }
 
 pub answered_head : (old held after : List ℕ) (around : Around) (head : Head) (len : ℕ) → Held old held around.left around.left_after
-    → length held ≤ 16384 → IsWhole held head len → after ≡ drop len held → Answers around old after (next.Found head)
+    → length held ≤ 16384 → IsWhole held head len → after ≡ drop len held → AnswersHead around old after (next.Found head)
 answered_head old held after around head len read short is kept =
     answered old held after around enough (next.Found head) read tt (record {
       whole = is.whole;
@@ -111,39 +111,39 @@ answered_head old held after around head len read short is kept =
     })
 
 pub answered_many : (old held after : List ℕ) (around : Around) (result : Next) → Held old held around.left around.left_after
-    → length held ≤ 16384 → HasManyFields held → result ≡ next.ManyHeaders → after ≡ held → Answers around old after result
+    → length held ≤ 16384 → HasManyFields held → result ≡ next.ManyHeaders → after ≡ held → AnswersHead around old after result
 answered_many old held after around result read short many is kept =
     rw is (answered old held after around enough next.ManyHeaders read tt (subst HasManyFields (sym (short_front held short)) many, kept))
 
 pub answered_bad : (old held after : List ℕ) (around : Around) (result : Next) → Held old held around.left around.left_after
-    → length held ≤ 16384 → NeverHasRequest held → result ≡ next.BadHead → after ≡ held → Answers around old after result
+    → length held ≤ 16384 → NeverHasRequest held → result ≡ next.BadHead → after ≡ held → AnswersHead around old after result
 answered_bad old held after around result read short never is kept =
     rw is (answered old held after around enough next.BadHead read tt (subst NeverHasRequest (sym (short_front held short)) never, kept))
 
 pub answered_long : (old held after : List ℕ) (around : Around) (result : Next) → Held old held around.left around.left_after
-    → length held ≤ 16384 → IsUnfinished held → 16384 ≤ length held → result ≡ next.HeadTooLong → after ≡ held → Answers around old after result
+    → length held ≤ 16384 → IsUnfinished held → 16384 ≤ length held → result ≡ next.HeadTooLong → after ≡ held → AnswersHead around old after result
 answered_long old held after around result read short unfinished long is kept =
     rw is (answered old held after around enough next.HeadTooLong read tt (subst IsUnfinished (sym (short_front held short)) unfinished, long, kept))
 
 pub answered_cut : (old held after : List ℕ) (around : Around) (result : Next) → Held old held around.left around.left_after
     → IsUnfinished held → length held < 16384 → 0 < length held → Stops over around.ended around.left_after around.faults around.faults_after
-    → result ≡ next.CutShort → after ≡ held → Answers around old after result
+    → result ≡ next.CutShort → after ≡ held → AnswersHead around old after result
 answered_cut old held after around result read unfinished short some stops is kept =
     rw is (answered old held after around over next.CutShort read stops ((unfinished, short), some, refl, kept))
 
 pub answered_ended : (old held after : List ℕ) (around : Around) → Held old held around.left around.left_after
-    → held ≡ [] → Stops over around.ended around.left_after around.faults around.faults_after → after ≡ held → Answers around old after next.Ended
+    → held ≡ [] → Stops over around.ended around.left_after around.faults around.faults_after → after ≡ held → AnswersHead around old after next.Ended
 answered_ended old held after around read nothing stops kept =
     answered old held after around over next.Ended read stops (nothing, refl, kept)
 
 pub answered_fault : (old held after : List ℕ) (around : Around) → Held old held around.left around.left_after
     → IsUnfinished held → length held < 16384 → Stops broken around.ended around.left_after around.faults around.faults_after → after ≡ held
-    → Answers around old after next.ReadFault
+    → AnswersHead around old after next.ReadFault
 answered_fault old held after around read unfinished short stops kept =
     answered old held after around broken next.ReadFault read stops ((unfinished, short), refl, kept)
 
 pub answered_want : (old held after : List ℕ) (around : Around) → Held old held around.left around.left_after → after ≡ held
-    → Answers around old after next.NoMemory
+    → AnswersHead around old after next.NoMemory
 answered_want old held after around read kept = answered old held after around enough next.NoMemory read tt kept
 
 pub not_empty : (held : List ℕ) → false ≡ (length held == 0) → 0 < length held

@@ -90,7 +90,7 @@ abbrev pub HoldsHead : List ℕ → Type 0
 HoldsHead held = (h : RequestHead) × (rest : List ℕ) × ReadsRequest held h rest
 
 -- The answer is what is found in the bytes that were held and those that were read, and what is left is held.
-pub record Answers (around : Around) (held held_after : List ℕ) (result : Next) : Type 0 where
+pub record AnswersHead (around : Around) (held held_after : List ℕ) (result : Next) : Type 0 where
   pub bytes : List ℕ
   pub stop : Stop
   pub reading : IsReading around bytes stop

@@ -3,7 +3,7 @@ ghost use Rattle.std.specs.Prelude.{◌≡◌, ◌≤◌, ◌<◌, ◌+◌, ◌+
 ghost use Rattle.std.specs.Io.KnownBytes.{prepend_known, IsAtEnd};
 ghost use Rattle.usp_base.specs.Outside.{HasCause};
 ghost use Rattle.usp_base.specs.Runs.{Runs};
-ghost use Rattle.usp_http.specs.Finding.{Answers, Held, HoldsHead, Stops, fault_of, next_of};
+ghost use Rattle.usp_http.specs.Finding.{AnswersHead, Held, HoldsHead, Stops, fault_of, next_of};
 ghost use Rattle.usp_http.specs.Fronts.{IsFront};
 ghost use Rattle.usp_http.specs.Pauses.{stop_of};
 ghost use Rattle.usp_http.specs.declared.limits.TheConstants.{MAX_HEAD};
@@ -176,7 +176,7 @@ impl HeadReader {
     /// faults the same answer comes again. Where a whole head is held already, nothing is read.
     #[tactic(auto, using(crate::proofs::Reading::look_steps))]
     pub fn next_head<S: Source>(&mut self, source: &mut S) -> Next
-        ensures answers { self.old.fault ≡ None → Answers (record {
+        ensures answers { self.old.fault ≡ None → AnswersHead (record {
           left = S.left source.old;
           left_after = S.left source.new;
           ended = S.ended source.new;

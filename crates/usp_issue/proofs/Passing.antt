@@ -37,9 +37,9 @@ use Rattle.usp_rules.proofs.Firsts.{claims_here, header_here, verified_here}
 use Rattle.usp_rules.proofs.Single.{one_claims}
 use Rattle.usp_rules.specs.Asks.{Presented}
 use Rattle.usp_rules.specs.Constraints.{IsContained, is_begun, is_critical_met, is_for, is_issued, is_plain, is_renewable, is_unexpired, is_version_1}
-use Rattle.usp_rules.specs.Rules.{Meets as MeetsRule, Valid, Wants}
+use Rattle.usp_rules.specs.Rules.{ConstraintHolds, Valid, Wants}
 use Rattle.usp_rules.specs.Segment.{segment_of}
-use Rattle.usp_rules.specs.Tokens.{Claims, HasClaims, HasHeader, IsVerified, SpellsClaims}
+use Rattle.usp_rules.specs.Tokens.{CarriesClaims, HasClaims, HasHeader, IsVerified, SpellsClaims}
 use Rattle.usp_rules.specs.declared.profile.Profile.{Profile}
 use Rattle.usp_rules.specs.declared.rule.Rule.{Rule}
 use Rattle.usp_rules.specs.declared.rule.Rule.TheVariants as rule
@@ -57,7 +57,7 @@ record Carries (ring : List KeyValue) (token : List ℕ) (kid : Option (List ℕ
   compact : IsToken token
   header : HasHeader token kid
   verified : IsVerified ring token place
-  claims : Claims token m
+  claims : CarriesClaims token m
 
 carries_parts : (profile : Profile) (key : KeyValue) (payload : List ℕ) (m : Members) (parts : PartsValue) (k : Knows profile key) → SpellsClaims payload m → parts_text parts ≡ sealed key payload
     → IsToken (parts_text parts) → Carries profile.ring (parts_text parts) (Some key.kid) k.place m
@@ -106,14 +106,14 @@ record AreWanted (profile : Profile) (issuer : List ℕ) (claims : Members) (con
 abbrev shown_for : List ℕ → List ℕ → ℕ → Presented
 shown_for token content moment = record { token = token; content = Some content; moment = moment }
 
-meets_rule : (r : Rule) (profile : Profile) (key : KeyValue) (token content : List ℕ) (moment place : ℕ) (claims : Members) → Claims token claims → IsVerified profile.ring token place
-    → slice_get profile.ring place ≡ Some key → Wants r profile key.issuer claims (Some content) moment → MeetsRule r profile (shown_for token content moment)
+meets_rule : (r : Rule) (profile : Profile) (key : KeyValue) (token content : List ℕ) (moment place : ℕ) (claims : Members) → CarriesClaims token claims → IsVerified profile.ring token place
+    → slice_get profile.ring place ≡ Some key → Wants r profile key.issuer claims (Some content) moment → ConstraintHolds r profile (shown_for token content moment)
 meets_rule r profile key token content moment place claims c v at w = record { members = claims; place = place; key = key; claims = c; verified = v; at = at; wants = w }
 
 valid_carried : (profile : Profile) (key : KeyValue) (token content : List ℕ) (moment : ℕ) (claims : Members) (k : Knows profile key) → Carries profile.ring token (Some key.kid) k.place claims
     → AreWanted profile key.issuer claims content moment → Valid profile (shown_for token content moment)
 valid_carried profile key token content moment claims k c w =
-    let meets : (r : Rule) → Wants r profile key.issuer claims (Some content) moment → MeetsRule r profile (shown_for token content moment)
+    let meets : (r : Rule) → Wants r profile key.issuer claims (Some content) moment → ConstraintHolds r profile (shown_for token content moment)
     = λ r want. meets_rule r profile key token content moment k.place claims c.claims c.verified k.there want in (
       c.compact,
       (
@@ -160,7 +160,7 @@ record Says (profile : Profile) (m : Members) : Type 0 where
   intended : is_for profile.audience m ≡ true
   renewable : is_renewable m ≡ true
 
-valid_says : (profile : Profile) (shown : Presented) (m : Members) → Claims shown.token m → Valid profile shown → Says profile m
+valid_says : (profile : Profile) (shown : Presented) (m : Members) → CarriesClaims shown.token m → Valid profile shown → Says profile m
 valid_says profile shown m c v =
     let version = v.1.1.1.1.0 in
     let plain = v.1.1.1.1.1.1.0 in
@@ -283,7 +283,7 @@ renewed_wanted profile m claims used content moment later key e old issuer conta
     (period_wanted profile m moment p.period later key content old issuer (subst (λ (x : Members). IsContained (Some content) x) p.is contained)
     (subst (λ (x : Members). AreUsable profile x content later) p.is usable))
 
-renewed_spells : (m claims : Members) (token used : List ℕ) (moment : ℕ) (key : KeyValue) → is_identity key.issuer ≡ true → moment < MOMENT_BOUND → Claims token m
+renewed_spells : (m claims : Members) (token used : List ℕ) (moment : ℕ) (key : KeyValue) → is_identity key.issuer ≡ true → moment < MOMENT_BOUND → CarriesClaims token m
     → renew m used moment key ≡ Some claims → length (canon_members claims) ≤ MAX_PAYLOAD → length (entries claims) ≤ MAX_MEMBERS → SpellsClaims (canon_members claims) claims
 renewed_spells m claims token used moment key issuer early c e short few = record {
   short = short;
@@ -292,7 +292,7 @@ renewed_spells m claims token used moment key issuer early c e short few = recor
 }
 
 pub renewed_passes : (profile : Profile) (shown : Presented) (m : Members) (key : KeyValue) (used token content : List ℕ) (later : ℕ) (r : IsRenewed m used shown.moment key token)
-    → Valid profile shown → shown.moment < MOMENT_BOUND → Claims shown.token m → Knows profile key
+    → Valid profile shown → shown.moment < MOMENT_BOUND → CarriesClaims shown.token m → Knows profile key
     → length (canon_members r.claims) ≤ MAX_PAYLOAD → length (entries r.claims) ≤ MAX_MEMBERS
     → IsContained (Some content) r.claims → AreUsable profile r.claims content later
     → Valid profile (record { token = token; content = Some content; moment = later })
@@ -357,7 +357,7 @@ resigned_wanted profile there m content moment later route claims e old issuer a
     }
 
 resigned_spells : (m claims : Members) (token content : List ℕ) (moment : ℕ) (route : RouteValue) → is_identity route.key.issuer ≡ true → is_identity route.audience ≡ true → moment < MOMENT_BOUND
-    → Claims token m → Resigns m content moment route claims → length (canon_members claims) ≤ MAX_PAYLOAD → SpellsClaims (canon_members claims) claims
+    → CarriesClaims token m → Resigns m content moment route claims → length (canon_members claims) ≤ MAX_PAYLOAD → SpellsClaims (canon_members claims) claims
 resigned_spells m claims token content moment route issuer audience early c e short = record {
   short = short;
   reads = reads_back claims (resigned_kept m content moment route claims issuer audience early c.claims.claims.set (reading_keeps c.claims.bytes m c.claims.claims.reads) e);
@@ -365,7 +365,7 @@ resigned_spells m claims token content moment route issuer audience early c e sh
 }
 
 pub resigned_passes : (profile there : Profile) (shown : Presented) (m : Members) (content token : List ℕ) (route : RouteValue) (later : ℕ) (r : IsResigned m content shown.moment route token)
-    → Valid profile shown → shown.moment < MOMENT_BOUND → Claims shown.token m → Knows there route.key → has_identity there.audience route.audience ≡ true
+    → Valid profile shown → shown.moment < MOMENT_BOUND → CarriesClaims shown.token m → Knows there route.key → has_identity there.audience route.audience ≡ true
     → length (canon_members r.claims) ≤ MAX_PAYLOAD → AreUsable there r.claims (target_of content route) later
     → Valid there (record { token = token; content = Some (target_of content route); moment = later })
 resigned_passes profile there shown m content token route later r valid early c k audience short usable =

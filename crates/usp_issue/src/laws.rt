@@ -19,7 +19,7 @@ ghost use Rattle.usp_rules.specs.Asks.{Presented};
 ghost use Rattle.usp_rules.specs.Constraints.{IsContained};
 ghost use Rattle.usp_rules.specs.Rules.{Valid};
 ghost use Rattle.usp_rules.specs.Segment.{segment_of};
-ghost use Rattle.usp_rules.specs.Tokens.{Claims};
+ghost use Rattle.usp_rules.specs.Tokens.{CarriesClaims};
 ghost use Rattle.usp_rules.specs.declared.profile.Profile.{Profile};
 ghost use Rattle.usp_issue.specs.Edges.{AreUsable, Knows};
 ghost use Rattle.usp_issue.specs.Redirections.{IsPresent, IsTooLong, SendsFrom, Signs};
@@ -76,15 +76,15 @@ pub fn changes_few_claims()
 /// What is issued over the claims of a token is read as the claims that were sealed, or is not read.
 pub fn reads_what_was_sealed()
     ensures renewed { (m claims read : Members) (token content : List ℕ) (moment : ℕ)
-        (key : KeyValue) → is_identity key.issuer ≡ true → moment < MOMENT_BOUND → Claims token m
-        → renew m content moment key ≡ Some claims → Claims (sealed key (canon_members claims)) read
+        (key : KeyValue) → is_identity key.issuer ≡ true → moment < MOMENT_BOUND → CarriesClaims token m
+        → renew m content moment key ≡ Some claims → CarriesClaims (sealed key (canon_members claims)) read
         → read ≡ claims }
     ensures resigned { (m claims read : Members) (token content : List ℕ) (moment : ℕ)
         (route : RouteValue) → is_identity route.key.issuer ≡ true
         → is_identity route.audience ≡ true
         → moment < MOMENT_BOUND
-        → Claims token m → Resigns m content moment route claims
-        → Claims (sealed route.key (canon_members claims)) read → read ≡ claims }
+        → CarriesClaims token m → Resigns m content moment route claims
+        → CarriesClaims (sealed route.key (canon_members claims)) read → read ≡ claims }
 {}
 
 /// A content is signed for a route in one way, or it is refused for one reason. So it is sent on in one
@@ -118,7 +118,7 @@ pub fn issued_tokens_pass()
     ensures renewed { (profile : Profile) (shown : Presented) (m : Members) (key : KeyValue)
         (used token content : List ℕ) (later : ℕ)
         (renewed : IsRenewed m used shown.moment key token)
-        → Valid profile shown → shown.moment < MOMENT_BOUND → Claims shown.token m
+        → Valid profile shown → shown.moment < MOMENT_BOUND → CarriesClaims shown.token m
         → Knows profile key
         → length (canon_members renewed.claims) ≤ MAX_PAYLOAD
         → length (entries renewed.claims) ≤ MAX_MEMBERS
@@ -127,7 +127,7 @@ pub fn issued_tokens_pass()
     ensures resigned { (profile there : Profile) (shown : Presented) (m : Members)
         (content token : List ℕ) (route : RouteValue) (later : ℕ)
         (resigned : IsResigned m content shown.moment route token)
-        → Valid profile shown → shown.moment < MOMENT_BOUND → Claims shown.token m
+        → Valid profile shown → shown.moment < MOMENT_BOUND → CarriesClaims shown.token m
         → Knows there route.key → has_identity there.audience route.audience ≡ true
         → length (canon_members resigned.claims) ≤ MAX_PAYLOAD
         → AreUsable there resigned.claims (target_of content route) later

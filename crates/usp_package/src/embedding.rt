@@ -33,7 +33,7 @@ impl fmt::Display for NoMemory {
 impl Error for NoMemory {}
 
 /// The one followed by the other: of what `find` gives, the content text.
-pub fn joined(alloc: Global, before: &[u8], after: &[u8]) -> Result<Vec<u8>, NoMemory>
+pub fn concatenate(alloc: Global, before: &[u8], after: &[u8]) -> Result<Vec<u8>, NoMemory>
     ensures { IfOk result (λ text. text.items ≡ before.now ++ after.now) }
 {
     let mut text = Vec::new(alloc);

@@ -5,7 +5,7 @@
 //! match find(&name, b"http://h/v?token=e.y.J&t=1") {
 //!     Found::At { token, before, after } => {
 //!         // b"e.y.J", b"http://h/v?" and b"t=1", which joined are the content
-//!         let content = joined(alloc, before, after)?;
+//!         let content = concatenate(alloc, before, after)?;
 //!     }
 //!     Found::Bad { at } => {} // the byte at that offset may not follow a token
 //!     Found::None => {}       // the content is the text itself
@@ -19,7 +19,7 @@ mod limits;
 mod name;
 mod places;
 
-pub use embedding::{NoMemory, embed, joined};
+pub use embedding::{NoMemory, concatenate, embed};
 pub use finding::{Found, find};
 pub use limits::{MAX_NAME, limits_are_told};
 pub use name::AttrName;

@@ -157,7 +157,7 @@ fn puts_a_package_in_and_a_content_together(rt: HostRuntime) -> Result<(), Fail>
     ] {
         assert!(rt; embeds_as(rt.alloc(), uri, wanted), "{uri}");
     }
-    let content = joined(rt.alloc(), b"http://h/a", b"/b")
+    let content = concatenate(rt.alloc(), b"http://h/a", b"/b")
         .ok()
         .ok_or("a text")?;
     assert_eq!(rt; content.as_slice(), b"http://h/a/b".as_slice());
@@ -174,7 +174,7 @@ fn runs_the_example(rt: HostRuntime) -> Result<(), Fail> {
             after,
         } => {
             assert!(rt; token == b"e.y.J".as_slice());
-            let content = joined(rt.alloc(), before, after).ok().ok_or("a text")?;
+            let content = concatenate(rt.alloc(), before, after).ok().ok_or("a text")?;
             assert!(rt; content.as_slice() == b"http://h/v?t=1".as_slice());
         }
         _ => return Err("a package".into()),

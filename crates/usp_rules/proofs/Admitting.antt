@@ -8,7 +8,7 @@ use Rattle.usp_rules.proofs.Verdicts.{passes, presents_valid}
 use Rattle.usp_rules.specs.Asks.{AskValue, Presented, content_in, presented_in, token_in}
 use Rattle.usp_rules.specs.Judging.{Admits, Judges, PassesWith}
 use Rattle.usp_rules.specs.Rules.{Valid}
-use Rattle.usp_rules.specs.Tokens.{Claims, IsVerified}
+use Rattle.usp_rules.specs.Tokens.{CarriesClaims, IsVerified}
 use Rattle.usp_rules.specs.declared.judged.Judged.TheVariants.{Passed}
 use Rattle.usp_rules.specs.declared.profile.Profile.{Profile}
 
@@ -53,6 +53,6 @@ admits profile ask content token members place h =
       brought = p.brought ∙ ap Some told.tells.text;
       of = sym p.content ∙ told.tells.uri;
       valid = valid_of profile told.shown token content ask.moment told.tells.text told.tells.uri p.moment valid;
-      claims = subst (λ (t : List ℕ). Claims t members) told.tells.text told.tells.claims;
+      claims = subst (λ (t : List ℕ). CarriesClaims t members) told.tells.text told.tells.claims;
       verified = subst (λ (t : List ℕ). IsVerified profile.ring t place) told.tells.text told.tells.verified;
     }

@@ -14,8 +14,8 @@ use Rattle.usp_uri.specs.declared.fault.UriFault.{UriFault}
 use Rattle.usp_rules.specs.Asks.{AskValue, Presented, has_package, presented_in}
 use Rattle.usp_rules.specs.Constraints.{IsContained}
 use Rattle.usp_rules.specs.Judging.{Judges, JudgesAll, JudgesBy, JudgesWith, PassesWith}
-use Rattle.usp_rules.specs.Rules.{HoldsWith, IsFirst, Meets, OfToken, TokenHolds, Wants, constraints, rules_of_ask, rules_of_package, rules_of_parts, rules_of_token}
-use Rattle.usp_rules.specs.Tokens.{Claims, HasClaims, HasHeader, HasParts, IsVerified, verifying}
+use Rattle.usp_rules.specs.Rules.{HoldsWith, IsFirst, ConstraintHolds, OfToken, TokenHolds, Wants, constraints, rules_of_ask, rules_of_package, rules_of_parts, rules_of_token}
+use Rattle.usp_rules.specs.Tokens.{CarriesClaims, HasClaims, HasHeader, HasParts, IsVerified, verifying}
 use Rattle.usp_rules.specs.declared.fault.NoMemory.{NoMemory}
 use Rattle.usp_rules.specs.declared.judged.Judged.{Judged}
 use Rattle.usp_rules.specs.declared.judged.Judged.TheVariants.{Denied, Passed}
@@ -33,8 +33,8 @@ first_same P Q f g (r ∷ rs) found (inr h) = inr ((λ q. h.0 (g r q)), h.1)
 
 -- what a rule wants of the claims that are known
 wants_known : (r : Rule) (profile : Profile) (shown : Presented) (members : Members) (place : ℕ) (key : KeyValue)
-    → Claims shown.token members → IsVerified profile.ring shown.token place → slice_get profile.ring place ≡ Some key
-    → Meets r profile shown → Wants r profile key.issuer members shown.content shown.moment
+    → CarriesClaims shown.token members → IsVerified profile.ring shown.token place → slice_get profile.ring place ≡ Some key
+    → ConstraintHolds r profile shown → Wants r profile key.issuer members shown.content shown.moment
 wants_known r profile shown members place key claims verified at m =
     let these : m.members ≡ members = one_claims shown.token m.members members m.claims claims in
     let here : m.place ≡ place = one_place profile.ring shown.token m.place place m.verified verified in
@@ -44,11 +44,11 @@ wants_known r profile shown members place key claims verified at m =
 
 -- the first rule that fails of the claims that are known is that of the token
 pub first_of_claims : (profile : Profile) (shown : Presented) (members : Members) (place : ℕ) (key : KeyValue) (found : Option Rule)
-    → Claims shown.token members → IsVerified profile.ring shown.token place → slice_get profile.ring place ≡ Some key
+    → CarriesClaims shown.token members → IsVerified profile.ring shown.token place → slice_get profile.ring place ≡ Some key
     → IsFirst (λ r. Wants r profile key.issuer members shown.content shown.moment) constraints found
     → IsFirst (λ r. TokenHolds r profile shown) constraints found
 first_of_claims profile shown members place key found claims verified at h =
-    first_same (λ r. Wants r profile key.issuer members shown.content shown.moment) (λ r. Meets r profile shown)
+    first_same (λ r. Wants r profile key.issuer members shown.content shown.moment) (λ r. ConstraintHolds r profile shown)
     (λ r wants. record { members = members; place = place; key = key; claims = claims; verified = verified; at = at; wants = wants })
     (λ r m. wants_known r profile shown members place key claims verified at m) constraints found h
 
@@ -69,7 +69,7 @@ not_verified_at ring token parts kid split header none has =
     let both : None ≡ Some has.0 = sym none ∙ verified_at ring token has.0 parts kid split header has.1 in cc
 
 pub no_claims_at : (token : List ℕ) (parts : PartsValue) → HasParts token parts → ((members : Members) → HasClaims parts.payload members → ⊥)
-    → ((members : Members) × Claims token members) → ⊥
+    → ((members : Members) × CarriesClaims token members) → ⊥
 no_claims_at token parts split none has = none has.0 (claims_at token parts has.0 split has.1)
 
 -- the verdict on what an ask presents is that on the ask with its package
@@ -142,7 +142,7 @@ of_package profile ask pack (Ok (Passed content token members place)) is h = (
 -- ---- rules 7 to 15
 
 pub claims_denied : (profile : Profile) (token : List ℕ) (content : Option (List ℕ)) (moment : ℕ) (members : Members) (place : ℕ) (key : KeyValue)
-    (issuer : List ℕ) (of : Option (List ℕ)) (found : Option Rule) (denied : Rule) → Claims token members → IsVerified profile.ring token place
+    (issuer : List ℕ) (of : Option (List ℕ)) (found : Option Rule) (denied : Rule) → CarriesClaims token members → IsVerified profile.ring token place
     → slice_get profile.ring place ≡ Some key → issuer ≡ key.issuer → of ≡ content → found ≡ Some denied
     → IsFirst (λ r. Wants r profile issuer members of moment) constraints found
     → JudgesBy constraints profile (record { token = token; content = content; moment = moment }) (Denied denied)
@@ -155,7 +155,7 @@ claims_denied profile token content moment members place key issuer of found den
     first_of_claims profile shown members place key (Some denied) claims verified at same
 
 pub claims_passed : (profile : Profile) (token : List ℕ) (content : Option (List ℕ)) (moment : ℕ) (members : Members) (place : ℕ) (key : KeyValue)
-    (issuer : List ℕ) (of : Option (List ℕ)) (found : Option Rule) (uri text : List ℕ) → Claims token members → IsVerified profile.ring token place
+    (issuer : List ℕ) (of : Option (List ℕ)) (found : Option Rule) (uri text : List ℕ) → CarriesClaims token members → IsVerified profile.ring token place
     → slice_get profile.ring place ≡ Some key → issuer ≡ key.issuer → of ≡ content → found ≡ None → content ≡ Some uri → text ≡ token
     → IsFirst (λ r. Wants r profile issuer members of moment) constraints found
     → JudgesBy constraints profile (record { token = token; content = content; moment = moment }) (Passed uri text members place)
@@ -191,7 +191,7 @@ content_there profile issuer members of moment found is none h =
 
 -- ---- rules 4 to 15
 
-pub claims_here : (parts : PartsValue) (members : Members) → IsToken (text_of parts) → HasClaims parts.payload members → Claims (text_of parts) members
+pub claims_here : (parts : PartsValue) (members : Members) → IsToken (text_of parts) → HasClaims parts.payload members → CarriesClaims (text_of parts) members
 claims_here parts members token has = record { parts = parts; split = record { short = token; whole = refl }; claims = has }
 
 pub header_here : (parts : PartsValue) (kid : Option (List ℕ)) → IsToken (text_of parts) → IsHeader parts.header kid → HasHeader (text_of parts) kid

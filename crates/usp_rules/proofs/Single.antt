@@ -12,7 +12,7 @@ use Rattle.usp_jws.specs.Compact.{dots}
 use Rattle.usp_jws.specs.Headers.{IsHeader}
 use Rattle.usp_jws.specs.Keys.{KeyValue}
 use Rattle.usp_jws.specs.Parts.{PartsValue}
-use Rattle.usp_rules.specs.Tokens.{Claims, HasClaims, HasHeader, HasParts, IsVerified, verifying}
+use Rattle.usp_rules.specs.Tokens.{CarriesClaims, HasClaims, HasHeader, HasParts, IsVerified, verifying}
 
 -- the parts of a token by the bytes that they encode
 encoded_parts : (token : List ℕ) (parts : PartsValue) (h : HasParts token parts)
@@ -39,13 +39,13 @@ one_payload payload a b h k =
     let same : h.bytes ≡ k.bytes = b64u_once h.bytes k.bytes h.are_bytes k.are_bytes (sym h.encoded ∙ k.encoded) in
     reads_once given k.bytes a b (subst (λ bytes. IsReading bytes a) same h.claims.reads) k.claims.reads
 
-pub one_claims : (token : List ℕ) (a b : Members) → Claims token a → Claims token b → a ≡ b
+pub one_claims : (token : List ℕ) (a b : Members) → CarriesClaims token a → CarriesClaims token b → a ≡ b
 one_claims token a b h k =
     let same : h.parts ≡ k.parts = one_parts token h.parts k.parts h.split k.split in
     one_payload k.parts.payload a b (subst (λ parts. HasClaims parts.payload a) same h.claims) k.claims
 
 -- claims of the token are those of its payload
-pub claims_at : (token : List ℕ) (parts : PartsValue) (members : Members) → HasParts token parts → Claims token members → HasClaims parts.payload members
+pub claims_at : (token : List ℕ) (parts : PartsValue) (members : Members) → HasParts token parts → CarriesClaims token members → HasClaims parts.payload members
 claims_at token parts members split h =
     subst (λ parts. HasClaims parts.payload members) (one_parts token h.parts parts h.split split) h.claims
 

@@ -8,7 +8,7 @@ use Rattle.usp_uri.specs.Faults.{normal_of}
 use Rattle.usp_rules.specs.Asks.{AskValue, Presented, content_in, has_package, presented, presented_in}
 use Rattle.usp_rules.specs.Judging.{Judges, PassesWith}
 use Rattle.usp_rules.specs.Rules.{AllHold, Breaks, First, Holds, IsFirst, OfToken, TokenHolds, Valid, rules_of_ask, rules_of_parts}
-use Rattle.usp_rules.specs.Tokens.{Claims, IsVerified}
+use Rattle.usp_rules.specs.Tokens.{CarriesClaims, IsVerified}
 use Rattle.usp_rules.specs.declared.judged.Judged.{Judged}
 use Rattle.usp_rules.specs.declared.judged.Judged.TheVariants.{Denied, Passed}
 use Rattle.usp_rules.specs.declared.profile.Profile.{Profile}
@@ -69,7 +69,7 @@ one_passed profile ask pack c d t u m n i j h k =
     let uri : c ≡ d = same_Some c d (sym h.tells.uri ∙ (ap (λ s. s.content) shown ∙ k.tells.uri)) in
     let text : t ≡ u = sym h.tells.text ∙ (ap (λ s. s.token) shown ∙ k.tells.text) in
     let token : h.shown.token ≡ k.shown.token = ap (λ s. s.token) shown in
-    let claims : m ≡ n = one_claims k.shown.token m n (subst (λ x. Claims x m) token h.tells.claims) k.tells.claims in
+    let claims : m ≡ n = one_claims k.shown.token m n (subst (λ x. CarriesClaims x m) token h.tells.claims) k.tells.claims in
     let place : i ≡ j = one_place profile.ring k.shown.token i j (subst (λ x. IsVerified profile.ring x i) token h.tells.verified) k.tells.verified in
     same_passed c d t u m n i j uri text claims place
 

@@ -4,7 +4,7 @@ use Rattle.usp_json.specs.declared.value.Members.{Members}
 use Rattle.usp_package.specs.Package.{Package, package_of}
 use Rattle.usp_rules.specs.Asks.{AskValue, Presented, content_in, presented_in, token_in}
 use Rattle.usp_rules.specs.Rules.{First, HoldsWith, IsFirst, TokenHolds, Valid, rules_of_ask, rules_of_package}
-use Rattle.usp_rules.specs.Tokens.{Claims, IsVerified}
+use Rattle.usp_rules.specs.Tokens.{CarriesClaims, IsVerified}
 use Rattle.usp_rules.specs.declared.judged.Judged.{Judged}
 use Rattle.usp_rules.specs.declared.judged.Judged.TheVariants.{Denied, Passed}
 use Rattle.usp_rules.specs.declared.profile.Profile.{Profile}
@@ -16,7 +16,7 @@ pub record Tells (profile : Profile) (shown : Presented) (content token : List �
     (members : Members) (place : ℕ) : Type 0 where
   pub uri : shown.content ≡ Some content
   pub text : shown.token ≡ token
-  pub claims : Claims shown.token members
+  pub claims : CarriesClaims shown.token members
   pub verified : IsVerified profile.ring shown.token place
 
 -- the same of an ask with this package
@@ -64,5 +64,5 @@ pub record Admits (profile : Profile) (ask : AskValue) (content token : List ℕ
   pub brought : token_in (package_of profile.attribute ask.uri) ask.cookie ≡ Some token
   pub of : content_in ask.uri (package_of profile.attribute ask.uri) ≡ Some content
   pub valid : Valid profile (record { token = token; content = Some content; moment = ask.moment })
-  pub claims : Claims token members
+  pub claims : CarriesClaims token members
   pub verified : IsVerified profile.ring token place

@@ -8,7 +8,7 @@ use Rattle.usp_package.specs.Package.{Package, package_of}
 use Rattle.usp_uri.specs.Faults.{normal_of}
 use Rattle.usp_rules.specs.Asks.{AskValue, Presented, has_package, presented_in}
 use Rattle.usp_rules.specs.Constraints.{IsContained, is_begun, is_critical_met, is_for, is_issued, is_plain, is_renewable, is_unexpired, is_version_1}
-use Rattle.usp_rules.specs.Tokens.{Claims, HasHeader, IsVerified}
+use Rattle.usp_rules.specs.Tokens.{CarriesClaims, HasHeader, IsVerified}
 use Rattle.usp_rules.specs.declared.profile.Profile.{Profile}
 use Rattle.usp_rules.specs.declared.rule.Rule.{Rule}
 use Rattle.usp_rules.specs.declared.rule.Rule.TheVariants as rule
@@ -49,11 +49,11 @@ Wants rule.Container profile issuer members content moment = IsContained content
 Wants other profile issuer members content moment = ⊥
 
 -- The token has claims and a key that verifies it, and the rule has what it wants of them.
-pub record Meets (rule : Rule) (profile : Profile) (shown : Presented) : Type 0 where
+pub record ConstraintHolds (rule : Rule) (profile : Profile) (shown : Presented) : Type 0 where
   pub members : Members
   pub place : ℕ
   pub key : KeyValue
-  pub claims : Claims shown.token members
+  pub claims : CarriesClaims shown.token members
   pub verified : IsVerified profile.ring shown.token place
   pub at : slice_get profile.ring place ≡ Some key
   pub wants : Wants rule profile key.issuer members shown.content shown.moment
@@ -64,8 +64,8 @@ abbrev pub TokenHolds : Rule → Profile → Presented → Type 0
 TokenHolds rule.Package profile shown = IsToken shown.token
 TokenHolds rule.Header profile shown = (kid : Option (List ℕ)) × HasHeader shown.token kid
 TokenHolds rule.Signature profile shown = (place : ℕ) × IsVerified profile.ring shown.token place
-TokenHolds rule.Claims profile shown = (members : Members) × Claims shown.token members
-TokenHolds other profile shown = Meets other profile shown
+TokenHolds rule.Claims profile shown = (members : Members) × CarriesClaims shown.token members
+TokenHolds other profile shown = ConstraintHolds other profile shown
 
 -- A rule of what an ask presents, false where it presents no token.
 abbrev pub OfToken : (Presented → Type 0) → Option Presented → Type 0

@@ -49,7 +49,7 @@ pub record IsVerified (ring : List KeyValue) (token : List ℕ) (place : ℕ) : 
   pub first : verifying ring kid parts ≡ Some place
 
 -- The token's claims are these.
-pub record Claims (token : List ℕ) (members : Members) : Type 0 where
+pub record CarriesClaims (token : List ℕ) (members : Members) : Type 0 where
   pub parts : PartsValue
   pub split : HasParts token parts
   pub claims : HasClaims parts.payload members

@@ -8,7 +8,7 @@ ghost use Rattle.usp_package.specs.Package.{bad, carried, nothing};
 ghost use Rattle.usp_uri.specs.Faults.{normal_of};
 ghost use Rattle.usp_rules.specs.Judging.{Judges, JudgesAll, JudgesBy};
 ghost use Rattle.usp_rules.specs.Rules.{constraints, rules_of_parts, rules_of_token};
-ghost use Rattle.usp_rules.specs.Tokens.{Claims as HasClaimsOf, IsVerified};
+ghost use Rattle.usp_rules.specs.Tokens.{CarriesClaims, IsVerified};
 ghost use Rattle.usp_rules.specs.declared.judged.Judged.TheVariants.{Denied};
 ghost use Rattle.usp_rules.specs.declared.profile.Profile.{Profile};
 
@@ -20,7 +20,7 @@ use std::alloc::Global;
 use usp_claims::Claims;
 use usp_ext::Kit;
 use usp_jws::{DecodedToken, Parts, TokenRef, decode, verifier};
-use usp_package::{Found, find, joined};
+use usp_package::{Found, concatenate, find};
 use usp_uri::{Uri, UriFault, check_uri, read_uri};
 
 // Rules 7 to 15, of a token with these claims that the key at this place verifies.
@@ -32,7 +32,7 @@ fn judge_claims<'a>(
     content: Option<Uri>,
 ) -> Result<Judged<'a>, NoMemory>
     requires bound { terms.now.moment < MOMENT_BOUND }
-    requires claims { HasClaimsOf (text_of parts.now) claims }
+    requires claims { CarriesClaims (text_of parts.now) claims }
     requires verified { IsVerified terms.now.profile.now.ring (text_of parts.now) place }
     requires within { place < length terms.now.profile.now.ring }
     ensures { IfOk result (λ judged. JudgesBy constraints terms.now.profile.now
@@ -156,7 +156,7 @@ fn judge_carried<'a>(
     if !is_uri(ask.uri()) {
         return Ok(Judged::Denied(Rule::Uri));
     }
-    let text = joined(terms.alloc, before, after)?;
+    let text = concatenate(terms.alloc, before, after)?;
     let content = normal_form(terms.alloc, &text)?;
     judge_token(terms, token, content)
 }

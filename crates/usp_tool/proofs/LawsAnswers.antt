@@ -17,19 +17,19 @@ use Rattle.usp_rules.specs.Rules.{AllHold, Holds}
 use Rattle.usp_tool.proofs.LawsLines.{all_judged, all_signed}
 use Rattle.usp_tool.proofs.LawsOnce.{lacks_none, named_not_memory}
 use Rattle.usp_tool.proofs.LawsPassing as passing
-use Rattle.usp_tool.specs.Answers.{Answers, Works, WorksInput, no_conf, no_key, works}
+use Rattle.usp_tool.specs.Answers.{HasOutcome, Works, WorksInput, no_conf, no_key, works}
 use Rattle.usp_tool.specs.Check.Line.{ask_of}
 use Rattle.usp_base.specs.Lines.{lines_of}
 use Rattle.usp_tool.specs.Input.{is_long_input}
 use Rattle.usp_tool.specs.Job.{JobValue, checking, job_of, signing}
 use Rattle.usp_tool.specs.Outcome.{Outcome, refusal}
 use Rattle.usp_tool.specs.Sign.{SignsAll, SignsEach, done, more, none, signs, stops}
-use Rattle.usp_tool.specs.Sign.Line.{Signs, payload_for}
+use Rattle.usp_tool.specs.Sign.Line.{SignsLine, payload_for}
 use Rattle.usp_tool.specs.Words.{Command, check, sign}
 
 -- under a configuration that has a job, the outcome is that job's
 answered_work : (command : Command) (text input : List ℕ) (value : ConfValue) (job : JobValue) (o : Outcome) → Configures text value
-    → job_of command value ≡ Some job → Answers command text (Some input) o → WorksInput job input o
+    → job_of command value ≡ Some job → HasOutcome command text (Some input) o → WorksInput job input o
 answered_work command text input value job o configures has (no_conf found h is) =
     absurd (conf.refused found text value h (named_not_memory found is.0 is.1) configures)
 answered_work command text input value job o configures has (no_key v h lacks is) = absurd (lacks_none command text v value job h configures lacks has)
@@ -49,7 +49,7 @@ signing_job : (name kid : List ℕ) (value : ConfValue) (key : KeyValue) → key
     → job_of (sign name kid) value ≡ Some (signing value.site.profile.attribute key)
 signing_job name kid value key found = ap (option_map (λ k. signing value.site.profile.attribute k)) found
 
-pub judged : (name text input : List ℕ) (value : ConfValue) (o : Outcome) → Configures text value → Answers (check name) text (Some input) o
+pub judged : (name text input : List ℕ) (value : ConfValue) (o : Outcome) → Configures text value → HasOutcome (check name) text (Some input) o
     → is_long_input input ≡ false → All (λ line. is_some (ask_of line) ≡ true) (lines_of input) → (o.status ≡ Done) ⊎ (o.status ≡ Denials)
 judged name text input value o configures answers short all =
     let work = by_short (is_long_input input) (o ≡ refusal (codes "input")) (Works (checking value) (lines_of input) o) short
@@ -57,8 +57,8 @@ judged name text input value o configures answers short all =
     all_judged value.site.profile value.room 1 [] work.history (lines_of input) o all work.checks
 
 pub signed : (name kid text input : List ℕ) (value : ConfValue) (key : KeyValue) (o : Outcome) → Configures text value
-    → key_named value.site.profile.ring kid ≡ Some key → Answers (sign name kid) text (Some input) o → is_long_input input ≡ false
-    → All (λ line. (printed : List ℕ) × Signs value.site.profile.attribute key line printed) (lines_of input) → o.status ≡ Done
+    → key_named value.site.profile.ring kid ≡ Some key → HasOutcome (sign name kid) text (Some input) o → is_long_input input ≡ false
+    → All (λ line. (printed : List ℕ) × SignsLine value.site.profile.attribute key line printed) (lines_of input) → o.status ≡ Done
 signed name kid text input value key o configures found answers short all =
     let job = signing value.site.profile.attribute key in
     all_signed value.site.profile.attribute key 1 (lines_of input) o all
@@ -79,7 +79,7 @@ each_of attribute key _ _ _ (signs number first text lines o rest s all is) ends
     )
 
 pub each : (name kid text input : List ℕ) (value : ConfValue) (key : KeyValue) (o : Outcome) → Configures text value
-    → key_named value.site.profile.ring kid ≡ Some key → Answers (sign name kid) text (Some input) o → o.status ≡ Done
+    → key_named value.site.profile.ring kid ≡ Some key → HasOutcome (sign name kid) text (Some input) o → o.status ≡ Done
     → (texts : List (List ℕ)) × SignsEach value.site.profile.attribute key (lines_of input) texts o.text
 each name kid text input value key o configures found answers ends =
     let job = signing value.site.profile.attribute key in
@@ -88,14 +88,14 @@ each name kid text input value key o configures found answers ends =
     (answered_work (sign name kid) text input value job o configures (signing_job name kid value key found) answers)) ends
 
 pub rules_kept : (text kid line printed : List ℕ) (value : ConfValue) (key : KeyValue) (cookie : Option (List ℕ)) (moment : ℕ)
-    (s : Signs value.site.profile.attribute key line printed) → Configures text value → key_named value.site.profile.ring kid ≡ Some key
+    (s : SignsLine value.site.profile.attribute key line printed) → Configures text value → key_named value.site.profile.ring kid ≡ Some key
     → length (payload_for s.uri s.members) ≤ MAX_PAYLOAD
     → AllHold (λ r. Holds r value.site.profile (record { uri = printed; cookie = cookie; moment = moment })) passing.first_six
 rules_kept text kid line printed value key cookie moment s configures found short =
     passing.signed_passes value.site.profile kid line printed key cookie moment s (sound.attribute text value configures) (sound.apart text value configures) found
     (sound.found text kid value key configures found) short
 
-pub content_is : (text kid line printed : List ℕ) (value : ConfValue) (key : KeyValue) (s : Signs value.site.profile.attribute key line printed)
+pub content_is : (text kid line printed : List ℕ) (value : ConfValue) (key : KeyValue) (s : SignsLine value.site.profile.attribute key line printed)
     → Configures text value → key_named value.site.profile.ring kid ≡ Some key
     → content_in printed (package_of value.site.profile.attribute printed) ≡ Some s.uri
 content_is text kid line printed value key s configures found =

@@ -13,7 +13,7 @@ use Rattle.usp_tool.specs.Check.Line.{ask_of}
 use Rattle.usp_tool.specs.Check.Verdicts.{status_with}
 use Rattle.usp_tool.specs.Outcome.{Outcome}
 use Rattle.usp_tool.specs.Sign.{SignsAll, done as signed_done, stops as signed_stops, signs}
-use Rattle.usp_tool.specs.Sign.Line.{Signs}
+use Rattle.usp_tool.specs.Sign.Line.{SignsLine}
 use Rattle.usp_tool.specs.declared.check.verdict.Verdict.{Verdict}
 use Rattle.usp_tool.specs.declared.check.verdict.Verdict.TheVariants.{Admitted, Denied}
 
@@ -46,11 +46,11 @@ mutual
       subst IsWhole (sym (ap (λ (o : Outcome). o.status) is)) (still_whole verdict more.status (all_judged profile room (number + 1) between after lines more all checks))
 
 pub all_signed : (attribute : List ℕ) (key : KeyValue) (number : ℕ) (lines : List (List ℕ)) (outcome : Outcome)
-    → All (λ line. (text : List ℕ) × Signs attribute key line text) lines → SignsAll attribute key number lines outcome → outcome.status ≡ Done
+    → All (λ line. (text : List ℕ) × SignsLine attribute key line text) lines → SignsAll attribute key number lines outcome → outcome.status ≡ Done
 all_signed attribute key _ _ _ all (signed_done number outcome is) = ap (λ (o : Outcome). o.status) is
 all_signed attribute key _ _ _ all (signed_stops number first lines outcome never is) =
-    let some : (text : List ℕ) × Signs attribute key first text = first_of_all (λ line. (text : List ℕ) × Signs attribute key line text) first lines all in
+    let some : (text : List ℕ) × SignsLine attribute key first text = first_of_all (λ line. (text : List ℕ) × SignsLine attribute key line text) first lines all in
     absurd (never some.0 some.1)
 all_signed attribute key _ _ _ all (signs number first text lines outcome more signed rest is) =
     ap (λ (o : Outcome). o.status) is
-    ∙ all_signed attribute key (number + 1) lines more (rest_of_all (λ line. (text : List ℕ) × Signs attribute key line text) first lines all) rest
+    ∙ all_signed attribute key (number + 1) lines more (rest_of_all (λ line. (text : List ℕ) × SignsLine attribute key line text) first lines all) rest

@@ -23,7 +23,7 @@ use Rattle.usp_rules.specs.declared.judged.Judged.TheVariants as judged
 use Rattle.usp_rules.specs.declared.profile.Profile.{Profile}
 use Rattle.usp_rules.specs.declared.rule.Rule.{Rule}
 use Rattle.usp_tool.proofs.Signing.Line.{of_these}
-use Rattle.usp_tool.specs.Answers.{Answers, Works, WorksInput, no_conf, no_key, works}
+use Rattle.usp_tool.specs.Answers.{HasOutcome, Works, WorksInput, no_conf, no_key, works}
 use Rattle.usp_tool.specs.Check.{Checks, ChecksAsk, decides, done, line, stops, with_verdict}
 use Rattle.usp_tool.specs.Check.Line.{ask_of}
 use Rattle.usp_tool.specs.Check.Verdicts.{Decides, IsCall, called, denied, free, verdict_by}
@@ -32,7 +32,7 @@ use Rattle.usp_tool.specs.Input.{is_long_input}
 use Rattle.usp_tool.specs.Job.{JobValue, checking, job_of, signing}
 use Rattle.usp_tool.specs.Outcome.{IsConfRefusal, Outcome, empty, fault_name, line_refusal, refusal}
 use Rattle.usp_tool.specs.Sign.{SignsAll, done as signed_done, signs, stops as signed_stops, with_signed}
-use Rattle.usp_tool.specs.Sign.Line.{Signs, signed_uri}
+use Rattle.usp_tool.specs.Sign.Line.{SignsLine, signed_uri}
 use Rattle.usp_tool.specs.Words.{Command}
 use Rattle.usp_tool.specs.declared.check.verdict.Verdict.{Verdict}
 use Rattle.usp_tool.specs.declared.check.verdict.Verdict.TheVariants.{Admitted, Denied}
@@ -194,7 +194,7 @@ one_checked profile room number calls lines o p a b h k =
 
 -- ---- the lines of `sign`
 
-signs_once : (attribute : List ℕ) (key : KeyValue) (first text other : List ℕ) → Signs attribute key first text → Signs attribute key first other → text ≡ other
+signs_once : (attribute : List ℕ) (key : KeyValue) (first text other : List ℕ) → SignsLine attribute key first text → SignsLine attribute key first other → text ≡ other
 signs_once attribute key first text other s t =
     let cut = of_these attribute first t.typed t.claims key text s t.cut in
     let uri : s.uri ≡ t.uri = same_ok s.uri t.uri (sym (ap normal_of (sym cut.0) ∙ s.normal) ∙ t.normal) in
@@ -206,14 +206,14 @@ signs_once attribute key first text other s t =
 record LineSigned (attribute : List ℕ) (key : KeyValue) (number : ℕ) (first : List ℕ) (lines : List (List ℕ)) (outcome : Outcome) : Type 0 where
   pub text : List ℕ
   pub more : Outcome
-  pub signed : Signs attribute key first text
+  pub signed : SignsLine attribute key first text
   pub rest : SignsAll attribute key (number + 1) lines more
   pub is : outcome ≡ with_signed text more
 
 abbrev SignsBy : List ℕ → KeyValue → ℕ → List (List ℕ) → Outcome → Type 0
 SignsBy attribute key number [] outcome = outcome ≡ empty
 SignsBy attribute key number (first ∷ lines) outcome =
-    (((text : List ℕ) → Signs attribute key first text → ⊥) × (outcome ≡ line_refusal number)) ⊎ LineSigned attribute key number first lines outcome
+    (((text : List ℕ) → SignsLine attribute key first text → ⊥) × (outcome ≡ line_refusal number)) ⊎ LineSigned attribute key number first lines outcome
 
 by_signed : (attribute : List ℕ) (key : KeyValue) (number : ℕ) (lines : List (List ℕ)) (outcome : Outcome)
     → SignsAll attribute key number lines outcome → SignsBy attribute key number lines outcome
@@ -302,7 +302,7 @@ pub lacks_none : (command : Command) (text : List ℕ) (v w : ConfValue) (job : 
 lacks_none command text v w job h k lacks has =
     never_both (job_of command w) job (ap (job_of command) (sym (conf.only text v w h k)) ∙ lacks) has
 
-pub one_answer : (command : Command) (text input : List ℕ) (o p : Outcome) → Answers command text (Some input) o → Answers command text (Some input) p → o ≡ p
+pub one_answer : (command : Command) (text input : List ℕ) (o p : Outcome) → HasOutcome command text (Some input) o → HasOutcome command text (Some input) p → o ≡ p
 one_answer command text input o p (no_conf a h is) (no_conf b k same) = one_conf_refusal text a b o p h k is same
 one_answer command text input o p (no_conf a h is) (no_key v k lacks same) = absurd (conf.refused a text v h (named_not_memory a is.0 is.1) k)
 one_answer command text input o p (no_conf a h is) (works v j i k has e work) = absurd (conf.refused a text v h (named_not_memory a is.0 is.1) k)

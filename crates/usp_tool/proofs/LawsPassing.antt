@@ -35,12 +35,12 @@ use Rattle.usp_rules.proofs.Segments.{segment_ascii}
 use Rattle.usp_rules.specs.Asks.{content_in}
 use Rattle.usp_rules.specs.Rules.{AllHold, Holds, HoldsWith}
 use Rattle.usp_rules.specs.Segment.{segment_of}
-use Rattle.usp_rules.specs.Tokens.{Claims, HasClaims, HasHeader, IsVerified, SpellsClaims}
+use Rattle.usp_rules.specs.Tokens.{CarriesClaims, HasClaims, HasHeader, IsVerified, SpellsClaims}
 use Rattle.usp_rules.specs.declared.profile.Profile.{Profile}
 use Rattle.usp_rules.specs.declared.rule.Rule.{Rule}
 use Rattle.usp_rules.specs.declared.rule.Rule.TheVariants as rule
 use Rattle.usp_tool.proofs.Signing.Line.{container_set}
-use Rattle.usp_tool.specs.Sign.Line.{Signs, claims_for, is_open, payload_for, signed_uri}
+use Rattle.usp_tool.specs.Sign.Line.{SignsLine, claims_for, is_open, payload_for, signed_uri}
 use Rattle.usp_uri.proofs.NormalLaws.{normal_again}
 use Rattle.usp_uri.specs.Components.{query_in}
 use Rattle.usp_uri.specs.Faults.{normal_of}
@@ -92,7 +92,7 @@ pub record IsPackaged (attribute text token uri : List ℕ) : Type 0 where
   pub pack : package_of attribute text ≡ carried token uri []
   pub normal : normal_of text ≡ Ok text
 
-packaged : (attribute : List ℕ) (key : KeyValue) (line text : List ℕ) (s : Signs attribute key line text) → is_attr_name attribute ≡ true → is_kid key.kid ≡ true
+packaged : (attribute : List ℕ) (key : KeyValue) (line text : List ℕ) (s : SignsLine attribute key line text) → is_attr_name attribute ≡ true → is_kid key.kid ≡ true
     → IsPackaged attribute text (token_for key s.uri s.members) s.uri
 packaged attribute key line text s attr named =
     let token = token_for key s.uri s.members in
@@ -114,7 +114,7 @@ abbrev pub first_six : List Rule
 first_six = rule.Uri ∷ rule.Missing ∷ rule.Package ∷ rule.Header ∷ rule.Signature ∷ rule.Claims ∷ []
 
 six : (profile : Profile) (uri token before normal : List ℕ) (cookie kid : Option (List ℕ)) (moment place : ℕ) (m : Members) → normal_of uri ≡ Ok normal → IsToken token
-    → HasHeader token kid → IsVerified profile.ring token place → Claims token m
+    → HasHeader token kid → IsVerified profile.ring token place → CarriesClaims token m
     → AllHold (λ r. HoldsWith r profile (record { uri = uri; cookie = cookie; moment = moment }) (carried token before [])) first_six
 six profile uri token before normal cookie kid moment place m n t h v c = ((normal, n), (refl, (t, ((kid, h), ((place, v), ((m, c), tt))))))
 
@@ -123,7 +123,7 @@ pub record Carries (ring : List KeyValue) (token : List ℕ) (kid : Option (List
   pub compact : IsToken token
   pub header : HasHeader token kid
   pub verified : IsVerified ring token place
-  pub claims : Claims token m
+  pub claims : CarriesClaims token m
 
 carries_parts : (ring : List KeyValue) (key : KeyValue) (payload : List ℕ) (m : Members) (place : ℕ) (parts : PartsValue) → first_repeat ring ≡ None → slice_get ring place ≡ Some key
     → is_kid key.kid ≡ true → SpellsClaims payload m → text_of parts ≡ sealed key payload → IsToken (text_of parts) → Carries ring (text_of parts) (Some key.kid) place m
@@ -144,7 +144,7 @@ carries_sealed ring key payload m place apart there named spells token =
     let p = sealed_has_parts key payload in
     subst (λ t. Carries ring t (Some key.kid) place m) p.1 (carries_parts ring key payload m place p.0 apart there named spells p.1 (subst IsToken (sym p.1) token))
 
-pub signed_passes : (profile : Profile) (kid line text : List ℕ) (key : KeyValue) (cookie : Option (List ℕ)) (moment : ℕ) (s : Signs profile.attribute key line text)
+pub signed_passes : (profile : Profile) (kid line text : List ℕ) (key : KeyValue) (cookie : Option (List ℕ)) (moment : ℕ) (s : SignsLine profile.attribute key line text)
     → is_attr_name profile.attribute ≡ true → first_repeat profile.ring ≡ None → key_named profile.ring kid ≡ Some key → is_kid key.kid ≡ true
     → length (payload_for s.uri s.members) ≤ MAX_PAYLOAD → AllHold (λ r. Holds r profile (record { uri = text; cookie = cookie; moment = moment })) first_six
 signed_passes profile kid line text key cookie moment s attr apart found named short =
@@ -160,7 +160,7 @@ content_of_carried : (token text uri : List ℕ) → normal_of uri ≡ Ok uri �
 content_of_carried token text uri normal =
     ap (λ (t : List ℕ). result_ok (normal_of t)) (append-nil uri) ∙ ap result_ok normal
 
-pub signed_content : (attribute : List ℕ) (key : KeyValue) (line text : List ℕ) (s : Signs attribute key line text) → is_attr_name attribute ≡ true → is_kid key.kid ≡ true
+pub signed_content : (attribute : List ℕ) (key : KeyValue) (line text : List ℕ) (s : SignsLine attribute key line text) → is_attr_name attribute ≡ true → is_kid key.kid ≡ true
     → content_in text (package_of attribute text) ≡ Some s.uri
 signed_content attribute key line text s attr named =
     ap (content_in text) (packaged attribute key line text s attr named).pack

@@ -12,7 +12,7 @@ use Rattle.usp_base.specs.declared.fault.Status.TheVariants.{Done, Denials, Word
 use Rattle.usp_conf.proofs.Refused as rows
 use Rattle.usp_conf.specs.Readings.{Configures}
 use Rattle.usp_conf.specs.Values.{ConfValue}
-use Rattle.usp_tool.specs.Answers.{Answers, IsRefusedUnread, Works, WorksInput, works}
+use Rattle.usp_tool.specs.Answers.{HasOutcome, IsRefusedUnread, Works, WorksInput, works}
 use Rattle.usp_base.specs.Lines.{lines_of}
 use Rattle.usp_tool.specs.Input.{is_long_input, is_long_line}
 use Rattle.usp_tool.specs.Job.{JobValue, job_of}
@@ -44,7 +44,7 @@ known job read (Some all) (Some rest) o e h work =
 
 pub answers_read : (command : Command) (text : List ℕ) (conf : ConfValue) (job : JobValue) (read : List ℕ) (left after : Option (List ℕ)) (o : Outcome)
     → Configures text conf → job_of command conf ≡ Some job → left ≡ prepend_known read after → (length read ≤ MAX_INPUT → IsAtEnd after)
-    → WorksInput job read o → Answers command text left o
+    → WorksInput job read o → HasOutcome command text left o
 answers_read command text conf job read left after o configures has e h work =
     let k = known job read left after o e h work in works conf job k.0 configures has k.1 k.2
 
@@ -126,7 +126,7 @@ not_outside Memory i e = absurd i
 
 -- the outcome under the text that was loaded
 pub if_answered : {E : Type 0} (command : Command) (files : Option (List MemoryFile)) (left : Option (List ℕ)) (conf : List ℕ) (r : Result Outcome E)
-    → IfSome files (λ all. file_of all (conf_name command) ≡ Some conf) → IfOk r (λ o. Answers command conf left o)
+    → IfSome files (λ all. file_of all (conf_name command) ≡ Some conf) → IfOk r (λ o. HasOutcome command conf left o)
     → IfOk r (λ o. IsAnswered command files left o)
 if_answered command files left conf (Ok o) loaded answers = record { conf = conf; loaded = loaded; answers = answers }
 if_answered command files left conf (Err e) loaded answers = tt

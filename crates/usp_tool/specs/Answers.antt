@@ -31,12 +31,12 @@ IsRefusedUnread command conf =
 
 -- The outcome of a command and a configuration, and of the input where it is read: what is left to be read is that,
 -- if it is told.
-pub data Answers (command : Command) (conf : List ℕ) (left : Option (List ℕ)) (outcome : Outcome)
+pub data HasOutcome (command : Command) (conf : List ℕ) (left : Option (List ℕ)) (outcome : Outcome)
     : Type 0 where
   no_conf : (found : ConfFault) → RefusesConf found conf → IsConfRefusal found outcome
-      → Answers command conf left outcome
+      → HasOutcome command conf left outcome
   no_key : (value : ConfValue) → Configures conf value → job_of command value ≡ None
-      → outcome ≡ refusal (codes "key") → Answers command conf left outcome
+      → outcome ≡ refusal (codes "key") → HasOutcome command conf left outcome
   works : (value : ConfValue) (job : JobValue) (input : List ℕ) → Configures conf value
       → job_of command value ≡ Some job → IfSome left (λ bytes. bytes ≡ input)
-      → WorksInput job input outcome → Answers command conf left outcome
+      → WorksInput job input outcome → HasOutcome command conf left outcome

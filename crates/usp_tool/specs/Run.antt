@@ -8,7 +8,7 @@ use Rattle.usp_base.specs.declared.files.MemoryFile.{MemoryFile}
 use Rattle.usp_base.specs.declared.sink.Sink.{Ghosts as SinkGhosts}
 use Rattle.usp_base.specs.declared.source.Source.{Ghosts as SourceGhosts}
 use Rattle.usp_base.specs.Outside.{Rose, file_of}
-use Rattle.usp_tool.specs.Answers.{Answers, IsRefusedUnread}
+use Rattle.usp_tool.specs.Answers.{HasOutcome, IsRefusedUnread}
 use Rattle.usp_tool.specs.Outcome.{Outcome}
 use Rattle.usp_tool.specs.Words.{Command, command_of, conf_name, usage_line}
 
@@ -53,7 +53,7 @@ pub record IsAnswered (command : Command) (files : Option (List MemoryFile))
     (left : Option (List ℕ)) (outcome : Outcome) : Type 0 where
   pub conf : List ℕ
   pub loaded : IfSome files (λ all. file_of all (conf_name command) ≡ Some conf)
-  pub answers : Answers command conf left outcome
+  pub answers : HasOutcome command conf left outcome
 
 -- The text of such an outcome went out whole, and the status is its own.
 pub record PutsWhole {S : Type 0} (command : Command) (before after : World S) (status : Status)
@@ -96,7 +96,7 @@ ReadsWhole Outside ended = Unit {0}
 ReadsWhole Memory ended = Unit {0}
 
 -- What a run over words leaves, and its status.
-pub record Runs {S : Type 0} (words : List (List ℕ)) (before after : World S) (status : Status)
+pub record IsRun {S : Type 0} (words : List (List ℕ)) (before after : World S) (status : Status)
     : Type 0 where
   -- other words print the usage line, and nothing is read
   pub usage : IfNone (command_of words)

@@ -13,14 +13,14 @@ ghost use Rattle.usp_rules.specs.Asks.{content_in};
 ghost use Rattle.usp_rules.specs.Rules.{AllHold, Holds};
 ghost use Rattle.usp_rules.specs.declared.profile.Profile.{Profile};
 ghost use Rattle.usp_rules.specs.declared.rule.Rule.TheVariants as rule;
-ghost use Rattle.usp_tool.specs.Answers.{Answers};
+ghost use Rattle.usp_tool.specs.Answers.{HasOutcome};
 ghost use Rattle.usp_tool.specs.Check.{Checks};
 ghost use Rattle.usp_tool.specs.Check.Line.{ask_of};
 ghost use Rattle.usp_base.specs.Lines.{lines_of};
 ghost use Rattle.usp_tool.specs.Input.{is_long_input};
 ghost use Rattle.usp_tool.specs.Outcome.{Outcome};
 ghost use Rattle.usp_tool.specs.Sign.{SignsAll, SignsEach};
-ghost use Rattle.usp_tool.specs.Sign.Line.{Signs, payload_for};
+ghost use Rattle.usp_tool.specs.Sign.Line.{SignsLine, payload_for};
 ghost use Rattle.usp_tool.specs.Words.{Command, check, sign};
 ghost use Rattle.usp_tool.specs.declared.limits.TheConstants.{MAX_INPUT, MAX_LINE};
 
@@ -32,14 +32,14 @@ use usp_nonce::{MAX_UNTIL, MOMENT_LIMIT};
 /// is signed are all signed: in an input that is not too long, only a line of another form is refused.
 pub fn lines_in_their_grammar_are_answered()
     ensures judged { (name conf input : List ℕ) (value : ConfValue) (outcome : Outcome)
-        → Configures conf value → Answers (check name) conf (Some input) outcome
+        → Configures conf value → HasOutcome (check name) conf (Some input) outcome
         → is_long_input input ≡ false → All (λ line. is_some (ask_of line) ≡ true) (lines_of input)
         → (outcome.status ≡ Done) ⊎ (outcome.status ≡ Denials) }
     ensures signed { (name kid conf input : List ℕ) (value : ConfValue) (key : KeyValue)
         (outcome : Outcome) → Configures conf value
         → key_named value.site.profile.ring kid ≡ Some key
-        → Answers (sign name kid) conf (Some input) outcome → is_long_input input ≡ false
-        → All (λ line. (text : List ℕ) × Signs value.site.profile.attribute key line text)
+        → HasOutcome (sign name kid) conf (Some input) outcome → is_long_input input ≡ false
+        → All (λ line. (text : List ℕ) × SignsLine value.site.profile.attribute key line text)
         (lines_of input)
         → outcome.status ≡ Done }
 {}
@@ -51,19 +51,19 @@ pub fn signed_passes()
     ensures each { (name kid conf input : List ℕ) (value : ConfValue) (key : KeyValue)
         (outcome : Outcome) → Configures conf value
         → key_named value.site.profile.ring kid ≡ Some key
-        → Answers (sign name kid) conf (Some input) outcome → outcome.status ≡ Done
+        → HasOutcome (sign name kid) conf (Some input) outcome → outcome.status ≡ Done
         → (texts : List (List ℕ))
         × SignsEach value.site.profile.attribute key (lines_of input) texts outcome.text }
     ensures rules { (conf kid line text : List ℕ) (value : ConfValue) (key : KeyValue)
         (cookie : Option (List ℕ)) (moment : ℕ)
-        (s : Signs value.site.profile.attribute key line text) → Configures conf value
+        (s : SignsLine value.site.profile.attribute key line text) → Configures conf value
         → key_named value.site.profile.ring kid ≡ Some key
         → length (payload_for s.uri s.members) ≤ MAX_PAYLOAD
         → AllHold
         (λ r. Holds r value.site.profile (record { uri = text; cookie = cookie; moment = moment }))
         (rule.Uri ∷ rule.Missing ∷ rule.Package ∷ rule.Header ∷ rule.Signature ∷ rule.Claims ∷ []) }
     ensures content { (conf kid line text : List ℕ) (value : ConfValue) (key : KeyValue)
-        (s : Signs value.site.profile.attribute key line text) → Configures conf value
+        (s : SignsLine value.site.profile.attribute key line text) → Configures conf value
         → key_named value.site.profile.ring kid ≡ Some key
         → content_in text (package_of value.site.profile.attribute text) ≡ Some s.uri }
 {}
@@ -79,7 +79,7 @@ pub fn one_outcome()
         (o p : Outcome) → SignsAll attribute key number lines o
         → SignsAll attribute key number lines p → o ≡ p }
     ensures answered { (command : Command) (conf input : List ℕ) (o p : Outcome)
-        → Answers command conf (Some input) o → Answers command conf (Some input) p → o ≡ p }
+        → HasOutcome command conf (Some input) o → HasOutcome command conf (Some input) p → o ≡ p }
 {}
 
 /// Which number each limit is.

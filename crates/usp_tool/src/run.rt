@@ -5,9 +5,9 @@ ghost use Rattle.usp_base.specs.Outside.{Rose, file_of};
 ghost use Rattle.usp_base.specs.Statuses.{status_number};
 ghost use Rattle.usp_base.specs.declared.fault.Status.{Status};
 ghost use Rattle.usp_base.specs.declared.files.MemoryFile.{MemoryFile};
-ghost use Rattle.usp_tool.specs.Answers.{Answers, IsRefusedUnread};
+ghost use Rattle.usp_tool.specs.Answers.{HasOutcome, IsRefusedUnread};
 ghost use Rattle.usp_tool.specs.Outcome.{IsOwn};
-ghost use Rattle.usp_tool.specs.Run.{AsksAtMost, IsAnswered, ReadsWhole, Runs, world_of};
+ghost use Rattle.usp_tool.specs.Run.{AsksAtMost, IsAnswered, ReadsWhole, IsRun, world_of};
 ghost use Rattle.usp_tool.specs.Words.{conf_name, in_bytes};
 
 use crate::input::read_up_to;
@@ -47,7 +47,7 @@ fn outcome_under<S: Source>(
     input: &mut S,
 ) -> Result<Outcome, LoadFault>
     ensures answers { IfOk result (λ outcome.
-        Answers (in_bytes command.now) text.now (S.left input.old) outcome) }
+        HasOutcome (in_bytes command.now) text.now (S.left input.old) outcome) }
     ensures own { IfOk result (λ outcome. IsOwn outcome.status) }
     ensures cause { IsErrOf result LoadFault.Failed
         → Rose (S.read_count input.old) (S.read_count input.new) }
@@ -98,7 +98,7 @@ pub fn run_tool<F: Files, S: Source, K: Sink>(
     input: &mut S,
     out: &mut K,
 ) -> Status
-    ensures { Runs (map (λ w. string_bytes w) words.now)
+    ensures { IsRun (map (λ w. string_bytes w) words.now)
         (world_of F.Files S.Source K.Sink files.old input.old out.old)
         (world_of F.Files S.Source K.Sink files.new input.new out.new) result }
 {
@@ -118,7 +118,7 @@ pub fn run<F: Files, S: Source, K: Sink>(
     words: &[String],
     outside: &mut Outside<F, S, K>,
 ) -> Status
-    ensures { Runs (map (λ w. string_bytes w) words.now)
+    ensures { IsRun (map (λ w. string_bytes w) words.now)
         (world_of F.Files S.Source K.Sink outside.old.files outside.old.input outside.old.out)
         (world_of F.Files S.Source K.Sink outside.new.files outside.new.input outside.new.out)
         result }
@@ -144,7 +144,7 @@ pub fn run_to_the_end<F: Files, S: Source, K: Sink>(
     outside: &mut Outside<F, S, K>,
 ) -> ExitCode
     ensures { (status : Status) × (exit_status result ≡ status_number status)
-        × Runs (map (λ w. string_bytes w) words.now)
+        × IsRun (map (λ w. string_bytes w) words.now)
         (world_of F.Files S.Source K.Sink outside.old.files outside.old.input outside.old.out)
         (world_of F.Files S.Source K.Sink outside.new.files outside.new.input outside.new.out) status }
 {

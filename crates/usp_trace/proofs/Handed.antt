@@ -23,7 +23,7 @@ use Rattle.usp_json.specs.declared.value.Members.{Members}
 use Rattle.usp_rules.proofs.Single.{one_claims}
 use Rattle.usp_rules.specs.Constraints.{IsContained, is_begun, is_for, is_unexpired}
 use Rattle.usp_rules.specs.Rules.{Valid}
-use Rattle.usp_rules.specs.Tokens.{Claims}
+use Rattle.usp_rules.specs.Tokens.{CarriesClaims}
 use Rattle.usp_rules.specs.declared.profile.Profile.{Profile}
 use Rattle.usp_trace.specs.declared.issue.Issue.{Issue}
 use Rattle.usp_trace.specs.declared.issue.Issue.TheVariants.{Grant, Renewed, Resigned}
@@ -46,7 +46,7 @@ record Says (profile : Profile) (asked : Use) (m : Members) : Type 0 where
   unexpired : is_unexpired asked.moment m ≡ true
   contained : IsContained (Some asked.uri) m
 
-valid_says : (profile : Profile) (token : List ℕ) (asked : Use) (m : Members) → Claims token m → Valid profile (presented_by asked token) → Says profile asked m
+valid_says : (profile : Profile) (token : List ℕ) (asked : Use) (m : Members) → CarriesClaims token m → Valid profile (presented_by asked token) → Says profile asked m
 valid_says profile token asked m c v =
     let aud = v.1.1.1.1.1.1.1.1.0 in
     let nbf = v.1.1.1.1.1.1.1.1.1.0 in
@@ -185,7 +185,7 @@ has_audience sites grant m (Some last) h = there_was sites last (claim (codes "a
 
 -- ---- a grant
 
-grant_descends : (sites : List SiteValue) (ledger : List Issue) (place : ℕ) (token : List ℕ) (m : Members) → slice_get ledger place ≡ Some (Grant token) → Claims token m
+grant_descends : (sites : List SiteValue) (ledger : List Issue) (place : ℕ) (token : List ℕ) (m : Members) → slice_get ledger place ≡ Some (Grant token) → CarriesClaims token m
     → Descends sites ledger place token [] m
 grant_descends sites ledger place token m at c = record {
   grant = m;
@@ -202,10 +202,10 @@ grant_descends sites ledger place token m at c = record {
 -- ---- a renewal
 
 abbrev Hands : List SiteValue → List Issue → ℕ → List ℕ → List Issue → Type 0
-Hands sites ledger parent token links = (t : List ℕ) (m : Members) → token_at ledger parent ≡ Some t → Claims t m → Descends sites ledger parent token links m
+Hands sites ledger parent token links = (t : List ℕ) (m : Members) → token_at ledger parent ≡ Some t → CarriesClaims t m → Descends sites ledger parent token links m
 
 renewal_descends : (sites : List SiteValue) (ledger : List Issue) (place parent edge moment : ℕ) (uri made token : List ℕ) (links : List Issue) (m : Members)
-    → slice_get ledger place ≡ Some (Renewed parent edge uri moment made) → IsRenewal sites ledger place parent (use_at edge uri moment) made → Hands sites ledger parent token links → Claims made m
+    → slice_get ledger place ≡ Some (Renewed parent edge uri moment made) → IsRenewal sites ledger place parent (use_at edge uri moment) made → Hands sites ledger parent token links → CarriesClaims made m
     → Descends sites ledger place token (links ++ Renewed parent edge uri moment made ∷ []) m
 renewal_descends sites ledger place parent edge moment uri made token links m at due hands c =
     let link = Renewed parent edge uri moment made in
@@ -214,7 +214,7 @@ renewal_descends sites ledger place parent edge moment uri made token links m at
     let d = hands due.used.token due.members from due.used.claims in
     let says = valid_says due.site.profile due.used.token asked due.members due.used.claims due.used.valid in
     let is : m ≡ due.renewed.claims = renewed_once due.members due.renewed.claims m due.used.token uri moment due.key due.renewed.issuer due.used.early due.used.claims due.renewed.renewed
-    (subst (λ (t : List ℕ). Claims t m) due.renewed.text c) in
+    (subst (λ (t : List ℕ). CarriesClaims t m) due.renewed.text c) in
     let made_for = renew_says due.members uri moment due.key due.renewed.claims due.renewed.renewed in
     let whole : m ≡ for_period due.members moment due.key made_for.period = is ∙ made_for.is in
     let other : (name : List ℕ) → bytes_eq name (codes "exp") ≡ false → bytes_eq name (codes "iss") ≡ false → bytes_eq name (codes "iat") ≡ false → claim name m ≡ claim name due.members
@@ -241,7 +241,7 @@ renewal_descends sites ledger place parent edge moment uri made token links m at
 -- what the container of a redirection and that of its parent are
 container_back : (sites : List SiteValue) (ledger : List Issue) (place parent edge moment route : ℕ) (uri made token : List ℕ) (links : List Issue) (m : Members) (earlier later : List ℕ)
     → slice_get ledger place ≡ Some (Resigned parent edge uri moment route made) → (due : IsRedirection sites ledger place parent (use_at edge uri moment) route made)
-    → (d : Descends sites ledger parent token links due.members) → token_at ledger parent ≡ Some due.used.token → IsContained (Some uri) due.members → Claims made m
+    → (d : Descends sites ledger parent token links due.members) → token_at ledger parent ≡ Some due.used.token → IsContained (Some uri) due.members → CarriesClaims made m
     → text_claim (codes "cdniuc") due.members ≡ Some earlier → text_claim (codes "cdniuc") m ≡ Some later
     → (to : List ℕ) → IsContained (Some to) m → (origin : List ℕ) × Origin ledger place to origin × IsContained (Some origin) d.grant
 container_back sites ledger place parent edge moment route uri made token links m earlier later at due d from used c was now to h =
@@ -266,7 +266,7 @@ later_text m n earlier hash (inr is) was = (hash, is)
 
 redirection_descends : (sites : List SiteValue) (ledger : List Issue) (place parent edge moment route : ℕ) (uri made token : List ℕ) (links : List Issue) (m : Members)
     → slice_get ledger place ≡ Some (Resigned parent edge uri moment route made) → IsRedirection sites ledger place parent (use_at edge uri moment) route made → Hands sites ledger parent token links
-    → Claims made m → Descends sites ledger place token (links ++ Resigned parent edge uri moment route made ∷ []) m
+    → CarriesClaims made m → Descends sites ledger place token (links ++ Resigned parent edge uri moment route made ∷ []) m
 redirection_descends sites ledger place parent edge moment route uri made token links m at due hands c =
     let link = Resigned parent edge uri moment route made in
     let asked = use_at edge uri moment in
@@ -274,7 +274,7 @@ redirection_descends sites ledger place parent edge moment route uri made token 
     let d = hands due.used.token due.members from due.used.claims in
     let says = valid_says due.site.profile due.used.token asked due.members due.used.claims due.used.valid in
     let is : m ≡ due.resigned.claims = resigned_once due.members due.resigned.claims m due.used.token uri moment due.sent due.resigned.issuer due.resigned.audience due.used.early due.used.claims due.resigned.resigned
-    (subst (λ (t : List ℕ). Claims t m) due.resigned.text c) in
+    (subst (λ (t : List ℕ). CarriesClaims t m) due.resigned.text c) in
     let sent_on : IsSentOn due.members due.sent (target_of uri due.sent) m
     = subst (λ (x : Members). IsSentOn due.members due.sent (target_of uri due.sent) x) (sym is) (resigns_says due.members uri moment due.sent due.resigned.claims due.resigned.resigned) in
     let later = later_text due.members m says.contained.container _ sent_on.container says.contained.claimed in
@@ -296,7 +296,7 @@ redirection_descends sites ledger place parent edge moment route uri made token 
 -- ---- each token
 
 link_descends : (sites : List SiteValue) (ledger : List Issue) (place parent : ℕ) (token : List ℕ) (links : List Issue) (link : Issue) (m : Members)
-    → slice_get ledger place ≡ Some link → Some parent ≡ parent_of link → IsDue sites ledger place link → Hands sites ledger parent token links → Claims (token_of link) m
+    → slice_get ledger place ≡ Some link → Some parent ≡ parent_of link → IsDue sites ledger place link → Hands sites ledger parent token links → CarriesClaims (token_of link) m
     → Descends sites ledger place token (links ++ link ∷ []) m
 link_descends sites ledger place parent token links (Grant made) m at is due hands c = cc
 link_descends sites ledger place parent token links (Renewed q edge uri moment made) m at is due hands c =
@@ -307,10 +307,10 @@ link_descends sites ledger place parent token links (Resigned q edge uri moment 
     redirection_descends sites ledger place q edge moment route uri made token links m at due (subst (λ (n : ℕ). Hands sites ledger n token links) same hands) c
 
 -- the claims of what stands at a place
-claims_of : (ledger : List Issue) (place : ℕ) (issue : Issue) (t : List ℕ) (m : Members) → slice_get ledger place ≡ Some issue → token_at ledger place ≡ Some t → Claims t m → Claims (token_of issue) m
+claims_of : (ledger : List Issue) (place : ℕ) (issue : Issue) (t : List ℕ) (m : Members) → slice_get ledger place ≡ Some issue → token_at ledger place ≡ Some t → CarriesClaims t m → CarriesClaims (token_of issue) m
 claims_of ledger place issue t m at is c =
     let has : Some (token_of issue) ≡ Some t = sym (ap (λ (x : Option Issue). option_map token_of x) at) ∙ is in
-    subst (λ (x : List ℕ). Claims x m) (sym (same_text (token_of issue) t has)) c
+    subst (λ (x : List ℕ). CarriesClaims x m) (sym (same_text (token_of issue) t has)) c
 
 pub descends : (ledger : List Issue) (sites : List SiteValue) → Sound ledger sites → (place : ℕ) (places token : List ℕ) (links : List Issue) → Chain ledger place places token links
     → Hands sites ledger place token links

@@ -30,7 +30,7 @@ use Rattle.usp_jws.specs.Letters.{is_identity}
 use Rattle.usp_jws.specs.Sealed.{sealed}
 use Rattle.usp_rules.proofs.Segments.{segment_ascii}
 use Rattle.usp_rules.specs.Segment.{segment_of}
-use Rattle.usp_rules.specs.Tokens.{Claims}
+use Rattle.usp_rules.specs.Tokens.{CarriesClaims}
 use Rattle.usp_issue.specs.Renewals.{renew, with_present}
 use Rattle.usp_issue.specs.Resignings.{Resigns, for_route, for_target, target_of}
 use Rattle.usp_issue.specs.Routes.{RouteValue}
@@ -38,20 +38,20 @@ use Rattle.usp_trace.proofs.Replacing.{renew_says, period_below}
 
 -- ---- what is sealed is read once
 
-claims_read : (key : KeyValue) (payload : List ℕ) (read : Members) → IsBytes payload → Claims (sealed key payload) read → IsReading payload read
+claims_read : (key : KeyValue) (payload : List ℕ) (read : Members) → IsBytes payload → CarriesClaims (sealed key payload) read → IsReading payload read
 claims_read key payload read are h =
     let encoded : h.parts.payload ≡ b64u payload = sealed_payload key payload h.parts (sym h.split.whole) in
     let same : h.claims.bytes ≡ payload = b64u_once h.claims.bytes payload h.claims.are_bytes are (sym h.claims.encoded ∙ encoded) in
     subst (λ (l : List ℕ). IsReading l read) same h.claims.claims.reads
 
-within_once : (key : KeyValue) (m read : Members) → KeepsWithin with_a_member_more m → Claims (sealed key (canon_members m)) read → read ≡ m
+within_once : (key : KeyValue) (m read : Members) → KeepsWithin with_a_member_more m → CarriesClaims (sealed key (canon_members m)) read → read ≡ m
 within_once key m read kept h =
     let text = canon_members m in
     let back = reads_back_within with_a_member_more m kept in
     let bytes = reading_bytes with_a_member_more text m back in
     reads_once with_a_member_more text read m (reading_wider text read (claims_read key text read bytes h)) back
 
-pub kept_once : (key : KeyValue) (m read : Members) → KeepsLimits m → Claims (sealed key (canon_members m)) read → read ≡ m
+pub kept_once : (key : KeyValue) (m read : Members) → KeepsLimits m → CarriesClaims (sealed key (canon_members m)) read → read ≡ m
 kept_once key m read kept h = within_once key m read (members_wider_kept m kept) h
 
 -- ---- values within the limits
@@ -95,14 +95,14 @@ resigned_kept m content moment route claims issuer audience early set k (inr nar
     (there_kept Uc (Str (codes "hash:" ++ segment_of (target_of content route))) m set.contained k (container_kept (target_of content route))))
 
 pub resigned_once : (m claims read : Members) (token content : List ℕ) (moment : ℕ) (route : RouteValue) → is_identity route.key.issuer ≡ true → is_identity route.audience ≡ true → moment < 2 ^ 52
-    → Claims token m → Resigns m content moment route claims → Claims (sealed route.key (canon_members claims)) read → read ≡ claims
+    → CarriesClaims token m → Resigns m content moment route claims → CarriesClaims (sealed route.key (canon_members claims)) read → read ≡ claims
 resigned_once m claims read token content moment route issuer audience early h e k =
     kept_once route.key claims read (resigned_kept m content moment route claims issuer audience early h.claims.claims.set (reading_keeps h.claims.bytes m h.claims.claims.reads) e) k
 
 -- ---- renewed claims, which may have a member more than a payload that is read
 
 pub renewed_once : (m claims read : Members) (token content : List ℕ) (moment : ℕ) (key : KeyValue) → is_identity key.issuer ≡ true → moment < 2 ^ 52
-    → Claims token m → renew m content moment key ≡ Some claims → Claims (sealed key (canon_members claims)) read → read ≡ claims
+    → CarriesClaims token m → renew m content moment key ≡ Some claims → CarriesClaims (sealed key (canon_members claims)) read → read ≡ claims
 renewed_once m claims read token content moment key issuer early h e k =
     let p = renew_says m content moment key claims e in
     let le = period_below m p.period p.there in
@@ -112,4 +112,4 @@ renewed_once m claims read token content moment key issuer early h e k =
     (present_kept Iss (Str key.issuer) m (reading_keeps h.claims.bytes m h.claims.claims.reads) (identity_kept key.issuer issuer)) (number_kept moment (omega (arith, early))) in
     let whole = with_claim Exp (Num (decimal (moment + p.period))) before in
     within_once key whole read (wider_kept Exp (Num (decimal (moment + p.period))) before kept (number_kept (moment + p.period) (omega (arith, early, le))))
-    (subst (λ (x : Members). Claims (sealed key (canon_members x)) read) p.is k) ∙ sym p.is
+    (subst (λ (x : Members). CarriesClaims (sealed key (canon_members x)) read) p.is k) ∙ sym p.is

@@ -9,7 +9,7 @@ use Rattle.usp_json.specs.declared.value.Json.{Json}
 use Rattle.usp_json.specs.declared.value.Members.{Members}
 use Rattle.usp_rules.proofs.Single.{one_claims}
 use Rattle.usp_rules.specs.Constraints.{IsContained, is_begun, is_for, is_unexpired}
-use Rattle.usp_rules.specs.Tokens.{Claims}
+use Rattle.usp_rules.specs.Tokens.{CarriesClaims}
 use Rattle.usp_trace.specs.declared.issue.Issue.{Issue}
 use Rattle.usp_trace.specs.declared.issue.Issue.TheVariants.{Grant, Renewed, Resigned}
 use Rattle.usp_trace.specs.Chains.{Chain, granted, linked, IsChain}
@@ -157,25 +157,25 @@ renewed_last moment links h =
 
 -- each use of the chain met the grant, whichever chain and claims are shown
 use_met_of : (ledger : List Issue) (sites : List SiteValue) (place : ℕ) (asked used : Use) (places token : List ℕ) (links before : List Issue) (grant : Members)
-    → GrantMet ledger sites place asked → Chain ledger place places token links → Claims token grant → IsUseBehind links asked before used → IsUseMet sites grant before used
+    → GrantMet ledger sites place asked → Chain ledger place places token links → CarriesClaims token grant → IsUseBehind links asked before used → IsUseMet sites grant before used
 use_met_of ledger sites place asked used places token links before grant h chain claims at =
     let same = one_grant ledger place h.places places h.token token h.links links h.chain chain in
-    let grants : h.grant ≡ grant = one_claims token h.grant grant (subst (λ (t : List ℕ). Claims t h.grant) same.0 h.claims) claims in
+    let grants : h.grant ≡ grant = one_claims token h.grant grant (subst (λ (t : List ℕ). CarriesClaims t h.grant) same.0 h.claims) claims in
     subst (λ (g : Members). IsUseMet sites g before used) grants (elim at [
       | inl named ↦ h.earlier before named.1 named.0 used (same.1 ∙ named.2) named.3
       | inr last ↦ subst (λ (l : List Issue). IsUseMet sites h.grant l used) (same.1 ∙ sym last.0) (subst (λ (u : Use). IsUseMet sites h.grant h.links u) (sym last.1) h.last)
     ])
 
 pub met_container : (ledger : List Issue) (sites : List SiteValue) (place : ℕ) (asked : Use) (places token origin : List ℕ) (links : List Issue) (grant : Members)
-    → GrantMet ledger sites place asked → Chain ledger place places token links → Claims token grant → Origin ledger place asked.uri origin → IsContained (Some origin) grant
+    → GrantMet ledger sites place asked → Chain ledger place places token links → CarriesClaims token grant → Origin ledger place asked.uri origin → IsContained (Some origin) grant
 met_container ledger sites place asked places token origin links grant h chain claims from =
     let same = one_grant ledger place h.places places h.token token h.links links h.chain chain in
-    let grants : h.grant ≡ grant = one_claims token h.grant grant (subst (λ (t : List ℕ). Claims t h.grant) same.0 h.claims) claims in
+    let grants : h.grant ≡ grant = one_claims token h.grant grant (subst (λ (t : List ℕ). CarriesClaims t h.grant) same.0 h.claims) claims in
     let origins : h.origin ≡ origin = one_origin ledger place asked.uri h.origin origin h.from from in
     subst (λ (o : List ℕ). IsContained (Some o) grant) origins (subst (λ (g : Members). IsContained (Some h.origin) g) grants h.contained)
 
 pub met_direct : (ledger : List Issue) (sites : List SiteValue) (place : ℕ) (asked used : Use) (places token : List ℕ) (links before : List Issue) (grant : Members)
-    → GrantMet ledger sites place asked → Chain ledger place places token links → Claims token grant → IsUseBehind links asked before used → IsDirect before
+    → GrantMet ledger sites place asked → Chain ledger place places token links → CarriesClaims token grant → IsUseBehind links asked before used → IsDirect before
     → (site : SiteValue) × (slice_get sites used.edge ≡ Some site) × (is_for site.profile.audience grant ≡ true)
 met_direct ledger sites place asked used places token links before grant h chain claims at direct =
     let m = use_met_of ledger sites place asked used places token links before grant h chain claims at in
@@ -194,7 +194,7 @@ audience_of_route sites site edge route (Some aud) there h =
     (r.0, h.0, r.1, r.2, h.2)
 
 pub met_sent : (ledger : List Issue) (sites : List SiteValue) (place : ℕ) (asked used : Use) (places token : List ℕ) (links before : List Issue) (grant : Members) (edge route : ℕ)
-    → GrantMet ledger sites place asked → Chain ledger place places token links → Claims token grant → IsUseBehind links asked before used → AreSentBy edge route before
+    → GrantMet ledger sites place asked → Chain ledger place places token links → CarriesClaims token grant → IsUseBehind links asked before used → AreSentBy edge route before
     → is_some (claim (codes "aud") grant) ≡ true → (site : SiteValue) × (slice_get sites used.edge ≡ Some site) × HasAudienceOfRoute sites edge route site
 met_sent ledger sites place asked used places token links before grant edge route h chain claims at sent there =
     let m = use_met_of ledger sites place asked used places token links before grant h chain claims at in
@@ -202,24 +202,24 @@ met_sent ledger sites place asked used places token links before grant edge rout
     (m.site, m.named, audience_of_route sites m.site edge route (claim (codes "aud") grant) there audience)
 
 pub met_begun : (ledger : List Issue) (sites : List SiteValue) (place : ℕ) (asked used : Use) (places token : List ℕ) (links before : List Issue) (grant : Members)
-    → GrantMet ledger sites place asked → Chain ledger place places token links → Claims token grant → IsUseBehind links asked before used → is_begun used.moment grant ≡ true
+    → GrantMet ledger sites place asked → Chain ledger place places token links → CarriesClaims token grant → IsUseBehind links asked before used → is_begun used.moment grant ≡ true
 met_begun ledger sites place asked used places token links before grant h chain claims at =
     (use_met_of ledger sites place asked used places token links before grant h chain claims at).begun
 
 pub met_unexpired : (ledger : List Issue) (sites : List SiteValue) (place : ℕ) (asked used : Use) (places token : List ℕ) (links before : List Issue) (grant : Members)
-    → GrantMet ledger sites place asked → Chain ledger place places token links → Claims token grant → IsUseBehind links asked before used → IsUnrenewed before
+    → GrantMet ledger sites place asked → Chain ledger place places token links → CarriesClaims token grant → IsUseBehind links asked before used → IsUnrenewed before
     → is_unexpired used.moment grant ≡ true
 met_unexpired ledger sites place asked used places token links before grant h chain claims at unrenewed =
     let m = use_met_of ledger sites place asked used places token links before grant h chain claims at in
     subst (λ (o : Option ℕ). IsInTime grant used.moment o) (unrenewed_stays None before unrenewed) m.timely
 
 pub met_renewed : (ledger : List Issue) (sites : List SiteValue) (place : ℕ) (asked used : Use) (places token : List ℕ) (links before : List Issue) (grant : Members) (start : ℕ)
-    → GrantMet ledger sites place asked → Chain ledger place places token links → Claims token grant → IsUseBehind links asked before used → AreRenewedAt start before
+    → GrantMet ledger sites place asked → Chain ledger place places token links → CarriesClaims token grant → IsUseBehind links asked before used → AreRenewedAt start before
     → IsWithinPeriod grant start used.moment
 met_renewed ledger sites place asked used places token links before grant start h chain claims at renewed =
     let m = use_met_of ledger sites place asked used places token links before grant h chain claims at in
     subst (λ (o : Option ℕ). IsInTime grant used.moment o) (renewed_last start before renewed) m.timely
 
 pub met_there : (ledger : List Issue) (sites : List SiteValue) (place : ℕ) (asked : Use) → GrantMet ledger sites place asked
-    → (places : List ℕ) × (token : List ℕ) × (links : List Issue) × (grant : Members) × (origin : List ℕ) × Chain ledger place places token links × Claims token grant × Origin ledger place asked.uri origin
+    → (places : List ℕ) × (token : List ℕ) × (links : List Issue) × (grant : Members) × (origin : List ℕ) × Chain ledger place places token links × CarriesClaims token grant × Origin ledger place asked.uri origin
 met_there ledger sites place asked h = (h.places, h.token, h.links, h.grant, h.origin, h.chain, h.claims, h.from)

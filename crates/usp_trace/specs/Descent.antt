@@ -7,7 +7,7 @@ use Rattle.usp_issue.specs.Sites.{SiteValue}
 use Rattle.usp_json.specs.declared.value.Json.TheVariants.{Str}
 use Rattle.usp_json.specs.declared.value.Members.{Members}
 use Rattle.usp_rules.specs.Constraints.{IsContained}
-use Rattle.usp_rules.specs.Tokens.{Claims}
+use Rattle.usp_rules.specs.Tokens.{CarriesClaims}
 use Rattle.usp_trace.specs.declared.issue.Issue.{Issue}
 use Rattle.usp_trace.specs.Grants.{AreUsesMet, Origin, last_redirection, last_renewal, route_at}
 
@@ -33,7 +33,7 @@ HasEndOf grant members (Some last) =
 pub record Descends (sites : List SiteValue) (ledger : List Issue) (place : ℕ) (token : List ℕ) (links : List Issue)
     (members : Members) : Type 0 where
   pub grant : Members
-  pub claims : Claims token grant
+  pub claims : CarriesClaims token grant
   pub container : (uri : List ℕ) → IsContained (Some uri) members
       → (origin : List ℕ) × Origin ledger place uri origin × IsContained (Some origin) grant
   pub audience : HasAudienceOf sites grant members (last_redirection links)

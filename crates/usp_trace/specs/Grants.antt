@@ -8,7 +8,7 @@ use Rattle.usp_issue.specs.Routes.{RouteValue}
 use Rattle.usp_issue.specs.Sites.{SiteValue}
 use Rattle.usp_json.specs.declared.value.Members.{Members}
 use Rattle.usp_rules.specs.Constraints.{IsContained, is_begun, is_for, is_unexpired}
-use Rattle.usp_rules.specs.Tokens.{Claims}
+use Rattle.usp_rules.specs.Tokens.{CarriesClaims}
 use Rattle.usp_trace.specs.declared.issue.Issue.{Issue}
 use Rattle.usp_trace.specs.declared.issue.Issue.TheVariants.{Grant, Renewed, Resigned}
 use Rattle.usp_trace.specs.Chains.{Chain, token_at}
@@ -22,8 +22,8 @@ pub record Contains (ledger : List Issue) (parent : ℕ) (token earlier later : 
   pub before : Members
   pub after : Members
   pub at : token_at ledger parent ≡ Some used
-  pub claims_before : Claims used before
-  pub claims_after : Claims token after
+  pub claims_before : CarriesClaims used before
+  pub claims_after : CarriesClaims token after
   pub container_before : text_claim (codes "cdniuc") before ≡ Some earlier
   pub container_after : text_claim (codes "cdniuc") after ≡ Some later
 
@@ -118,7 +118,7 @@ pub record GrantMet (ledger : List Issue) (sites : List SiteValue) (place : ℕ)
   pub links : List Issue
   pub chain : Chain ledger place places token links
   pub grant : Members
-  pub claims : Claims token grant
+  pub claims : CarriesClaims token grant
   pub origin : List ℕ
   pub from : Origin ledger place asked.uri origin
   pub contained : IsContained (Some origin) grant

@@ -11,7 +11,7 @@ use Rattle.usp_json.specs.declared.value.Members.{Members}
 use Rattle.usp_jws.specs.Keys.{KeyValue}
 use Rattle.usp_jws.specs.Sealed.{sealed}
 use Rattle.usp_rules.specs.Rules.{Valid}
-use Rattle.usp_rules.specs.Tokens.{Claims}
+use Rattle.usp_rules.specs.Tokens.{CarriesClaims}
 use Rattle.usp_trace.specs.declared.issue.Issue.{Issue}
 use Rattle.usp_trace.specs.declared.issue.Issue.TheVariants.{Grant, Renewed, Resigned}
 use Rattle.usp_trace.specs.Chains.{token_at}
@@ -46,7 +46,7 @@ pub record WasRenewed (sites : List SiteValue) (ledger : List Issue) (parent edg
   pub named : slice_get sites edge ≡ Some site
   pub own : slice_get site.profile.ring site.sign ≡ Some key
   pub at : token_at ledger parent ≡ Some used
-  pub claims : Claims used before
+  pub claims : CarriesClaims used before
   pub renewed : renew before uri moment key ≡ Some after
   pub text : token ≡ sealed key (canon_members after)
 
@@ -61,7 +61,7 @@ pub record WasResigned (sites : List SiteValue) (ledger : List Issue) (parent ed
   pub named : slice_get sites edge ≡ Some site
   pub by : slice_get site.routes route ≡ Some sent
   pub at : token_at ledger parent ≡ Some used
-  pub claims : Claims used before
+  pub claims : CarriesClaims used before
   pub resigned : Resigns before uri moment sent after
   pub text : token ≡ sealed sent.key (canon_members after)
 

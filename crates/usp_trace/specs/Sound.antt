@@ -8,7 +8,7 @@ use Rattle.usp_json.specs.declared.value.Members.{Members}
 use Rattle.usp_jws.specs.Keys.{KeyValue}
 use Rattle.usp_rules.specs.Asks.{Presented}
 use Rattle.usp_rules.specs.Rules.{Valid}
-use Rattle.usp_rules.specs.Tokens.{Claims}
+use Rattle.usp_rules.specs.Tokens.{CarriesClaims}
 use Rattle.usp_trace.specs.declared.issue.Issue.{Issue}
 use Rattle.usp_trace.specs.declared.issue.Issue.TheVariants.{Grant, Renewed, Resigned}
 use Rattle.usp_trace.specs.Chains.{IsParent}
@@ -27,7 +27,7 @@ pub record IsUsed (sites : List SiteValue) (ledger : List Issue) (place parent :
   pub named : slice_get sites asked.edge ≡ Some site
   pub early : asked.moment < 2 ^ 52
   pub valid : Valid site.profile (presented_by asked token)
-  pub claims : Claims token members
+  pub claims : CarriesClaims token members
 
 -- The token is the claims of the parent's, renewed with the site's own key (RFC 9246 section 3.1).
 pub record IsRenewal (sites : List SiteValue) (ledger : List Issue) (place parent : ℕ) (asked : Use)

@@ -7,7 +7,7 @@ ghost use Rattle.usp_issue.specs.Sites.{SiteValue};
 ghost use Rattle.usp_json.specs.declared.value.Members.{Members};
 ghost use Rattle.usp_rules.specs.Constraints.{IsContained, is_begun, is_for, is_unexpired};
 ghost use Rattle.usp_rules.specs.Rules.{Valid};
-ghost use Rattle.usp_rules.specs.Tokens.{Claims};
+ghost use Rattle.usp_rules.specs.Tokens.{CarriesClaims};
 ghost use Rattle.usp_trace.specs.Chains.{Chain, IsChain, IsIssued, IsOrdered, first_place, token_at};
 ghost use Rattle.usp_trace.specs.Descent.{Descends};
 ghost use Rattle.usp_trace.specs.Grants.{GrantMet, Origin};
@@ -75,7 +75,7 @@ pub fn hands_on_the_grant()
     ensures { (ledger : List Issue) (sites : List SiteValue) (place : ℕ) (places token : List ℕ)
         (links : List Issue) (presented : List ℕ) (members : Members) → Sound ledger sites
         → Chain ledger place places token links → token_at ledger place ≡ Some presented
-        → Claims presented members → Descends sites ledger place token links members }
+        → CarriesClaims presented members → Descends sites ledger place token links members }
 {}
 
 /// Where a token of a sound ledger is valid at an edge for a URI at a moment, this use met the grant from which the
@@ -101,39 +101,39 @@ pub fn says_what_is_met()
     ensures container { (ledger : List Issue) (sites : List SiteValue) (place : ℕ) (asked : Use)
         (places token origin : List ℕ) (links : List Issue) (grant : Members)
         → GrantMet ledger sites place asked → Chain ledger place places token links
-        → Claims token grant → Origin ledger place asked.uri origin
+        → CarriesClaims token grant → Origin ledger place asked.uri origin
         → IsContained (Some origin) grant }
     ensures direct { (ledger : List Issue) (sites : List SiteValue) (place : ℕ) (asked used : Use)
         (places token : List ℕ) (links before : List Issue) (grant : Members)
         → GrantMet ledger sites place asked → Chain ledger place places token links
-        → Claims token grant → IsUseBehind links asked before used → IsDirect before
+        → CarriesClaims token grant → IsUseBehind links asked before used → IsDirect before
         → (site : SiteValue) × (slice_get sites used.edge ≡ Some site)
         × (is_for site.profile.audience grant ≡ true) }
     ensures sent { (ledger : List Issue) (sites : List SiteValue) (place : ℕ) (asked used : Use)
         (places token : List ℕ) (links before : List Issue) (grant : Members) (edge route : ℕ)
         → GrantMet ledger sites place asked → Chain ledger place places token links
-        → Claims token grant → IsUseBehind links asked before used → AreSentBy edge route before
+        → CarriesClaims token grant → IsUseBehind links asked before used → AreSentBy edge route before
         → is_some (claim (codes "aud") grant) ≡ true
         → (site : SiteValue) × (slice_get sites used.edge ≡ Some site)
         × HasAudienceOfRoute sites edge route site }
     ensures begun { (ledger : List Issue) (sites : List SiteValue) (place : ℕ) (asked used : Use)
         (places token : List ℕ) (links before : List Issue) (grant : Members)
         → GrantMet ledger sites place asked → Chain ledger place places token links
-        → Claims token grant → IsUseBehind links asked before used
+        → CarriesClaims token grant → IsUseBehind links asked before used
         → is_begun used.moment grant ≡ true }
     ensures unexpired { (ledger : List Issue) (sites : List SiteValue) (place : ℕ) (asked used : Use)
         (places token : List ℕ) (links before : List Issue) (grant : Members)
         → GrantMet ledger sites place asked → Chain ledger place places token links
-        → Claims token grant → IsUseBehind links asked before used → IsUnrenewed before
+        → CarriesClaims token grant → IsUseBehind links asked before used → IsUnrenewed before
         → is_unexpired used.moment grant ≡ true }
     ensures renewed { (ledger : List Issue) (sites : List SiteValue) (place : ℕ) (asked used : Use)
         (places token : List ℕ) (links before : List Issue) (grant : Members) (start : ℕ)
         → GrantMet ledger sites place asked → Chain ledger place places token links
-        → Claims token grant → IsUseBehind links asked before used → AreRenewedAt start before
+        → CarriesClaims token grant → IsUseBehind links asked before used → AreRenewedAt start before
         → IsWithinPeriod grant start used.moment }
     ensures there { (ledger : List Issue) (sites : List SiteValue) (place : ℕ) (asked : Use)
         → GrantMet ledger sites place asked → (places : List ℕ) × (token : List ℕ)
         × (links : List Issue) × (grant : Members) × (origin : List ℕ)
-        × Chain ledger place places token links × Claims token grant
+        × Chain ledger place places token links × CarriesClaims token grant
         × Origin ledger place asked.uri origin }
 {}

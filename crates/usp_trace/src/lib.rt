@@ -17,6 +17,8 @@ mod issue_list;
 mod laws;
 mod ledger;
 mod limits;
+#[cfg(test)]
+mod tests;
 
 pub use fault::NoMemory;
 pub use issue::Issue;

@@ -24,7 +24,7 @@ use Rattle.usp_uri.specs.declared.fault.TheConstants.{MAX_LEN}
 use Rattle.usp_json.proofs.FaultLaws.{reads_once}
 use Rattle.usp_json.specs.Spells.{given}
 use Rattle.usp_tool.specs.Check.Line.{space}
-use Rattle.usp_tool.specs.Sign.Line.{Signs, signed_uri}
+use Rattle.usp_tool.specs.Sign.Line.{SignsLine, signed_uri}
 use Rattle.usp_tool.specs.declared.memory.NoMemory.{NoMemory}
 
 -- the claims with the container of a URI are a claim set, and not too long
@@ -52,40 +52,40 @@ second_of (Some cut) = cut.1
 one_pair : (a b x y : List ℕ) → ◌≡◌ {A = Option (List ℕ × List ℕ)} (Some (a, b)) (Some (x, y)) → (a ≡ x) × (b ≡ y)
 one_pair a b x y e = (ap first_of e, ap second_of e)
 
-pub no_space : (attribute line : List ℕ) (key : KeyValue) → cut_at space line ≡ None → (text : List ℕ) → Signs attribute key line text → ⊥
+pub no_space : (attribute line : List ℕ) (key : KeyValue) → cut_at space line ≡ None → (text : List ℕ) → SignsLine attribute key line text → ⊥
 no_space attribute line key none text s =
     let both : ◌≡◌ {A = Option (List ℕ × List ℕ)} None (Some (s.typed, s.claims)) = sym none ∙ s.cut in cc
 
 -- What is signed for a line with this URI and these claims is signed for them.
-pub of_these : (attribute line typed claims : List ℕ) (key : KeyValue) (text : List ℕ) (s : Signs attribute key line text) → cut_at space line ≡ Some (typed, claims)
+pub of_these : (attribute line typed claims : List ℕ) (key : KeyValue) (text : List ℕ) (s : SignsLine attribute key line text) → cut_at space line ≡ Some (typed, claims)
     → (s.typed ≡ typed) × (s.claims ≡ claims)
 of_these attribute line typed claims key text s cut = one_pair s.typed s.claims typed claims (sym s.cut ∙ cut)
 
 pub no_uri : (attribute line typed claims : List ℕ) (key : KeyValue) → cut_at space line ≡ Some (typed, claims) → result_ok (normal_of typed) ≡ None
-    → (text : List ℕ) → Signs attribute key line text → ⊥
+    → (text : List ℕ) → SignsLine attribute key line text → ⊥
 no_uri attribute line typed claims key cut none text s =
     let there : result_ok (normal_of typed) ≡ Some s.uri = ap (λ t. result_ok (normal_of t)) (sym (of_these attribute line typed claims key text s cut).0) ∙ ap result_ok s.normal in
     let both : ◌≡◌ {A = Option (List ℕ)} None (Some s.uri) = sym none ∙ there in cc
 
-uri_is : (attribute line typed claims uri : List ℕ) (key : KeyValue) (text : List ℕ) (s : Signs attribute key line text) → cut_at space line ≡ Some (typed, claims)
+uri_is : (attribute line typed claims uri : List ℕ) (key : KeyValue) (text : List ℕ) (s : SignsLine attribute key line text) → cut_at space line ≡ Some (typed, claims)
     → result_ok (normal_of typed) ≡ Some uri → s.uri ≡ uri
 uri_is attribute line typed claims uri key text s cut some =
     let there : result_ok (normal_of typed) ≡ Some s.uri = ap (λ t. result_ok (normal_of t)) (sym (of_these attribute line typed claims key text s cut).0) ∙ ap result_ok s.normal in
     same_some s.uri uri (sym there ∙ some)
 
 pub not_bare : (attribute line typed claims uri : List ℕ) (key : KeyValue) → cut_at space line ≡ Some (typed, claims) → result_ok (normal_of typed) ≡ Some uri
-    → (package_of attribute uri ≡ nothing → ⊥) → (text : List ℕ) → Signs attribute key line text → ⊥
+    → (package_of attribute uri ≡ nothing → ⊥) → (text : List ℕ) → SignsLine attribute key line text → ⊥
 not_bare attribute line typed claims uri key cut some has text s =
     has (subst (λ u. package_of attribute u ≡ nothing) (uri_is attribute line typed claims uri key text s cut some) s.bare)
 
 pub no_claims : (attribute line typed claims : List ℕ) (key : KeyValue) → cut_at space line ≡ Some (typed, claims)
-    → ((members : Members) → SpellsClaims claims members → ⊥) → (text : List ℕ) → Signs attribute key line text → ⊥
+    → ((members : Members) → SpellsClaims claims members → ⊥) → (text : List ℕ) → SignsLine attribute key line text → ⊥
 no_claims attribute line typed claims key cut none text s =
     none s.members (subst (λ c. SpellsClaims c s.members) (of_these attribute line typed claims key text s cut).1 s.spells)
 
 too_long : (attribute line typed claims uri : List ℕ) (key : KeyValue) (members : Members) → cut_at space line ≡ Some (typed, claims)
     → result_ok (normal_of typed) ≡ Some uri → SpellsClaims claims members → MAX_LEN < length (signed_uri attribute key uri members)
-    → (text : List ℕ) → Signs attribute key line text → ⊥
+    → (text : List ℕ) → SignsLine attribute key line text → ⊥
 too_long attribute line typed claims uri key members cut some spells long text s =
     let u : s.uri ≡ uri = uri_is attribute line typed claims uri key text s cut some in
     let c : SpellsClaims claims s.members = subst (λ c. SpellsClaims c s.members) (of_these attribute line typed claims key text s cut).1 s.spells in
@@ -99,7 +99,7 @@ pub signed_line : {X : Type 0} (items : X → List ℕ) (attribute line typed cl
     → result_ok (normal_of typed) ≡ Some uri → package_of attribute uri ≡ nothing → SpellsClaims claims members
     → IfOk r (λ signed. MatchOption signed (MAX_LEN < length (signed_uri attribute key uri members))
     (λ text. (items text ≡ signed_uri attribute key uri members) × (length (items text) ≤ MAX_LEN)))
-    → IfOk r (λ signed. MatchOption signed ((text : List ℕ) → Signs attribute key line text → ⊥) (λ text. Signs attribute key line (items text)))
+    → IfOk r (λ signed. MatchOption signed ((text : List ℕ) → SignsLine attribute key line text → ⊥) (λ text. SignsLine attribute key line (items text)))
 signed_line items attribute line typed claims uri key members (Err e) cut some bare spells h = h
 signed_line items attribute line typed claims uri key members (Ok None) cut some bare spells h = too_long attribute line typed claims uri key members cut some spells h
 signed_line items attribute line typed claims uri key members (Ok (Some text)) cut some bare spells h =

@@ -6,7 +6,7 @@ use Rattle.usp_tool.proofs.Texts.{made, same_made}
 use Rattle.usp_base.specs.Lines.{lines_of}
 use Rattle.usp_tool.specs.Outcome.{Outcome, empty, line_refusal}
 use Rattle.usp_tool.specs.Sign.{SignsAll, done, signs, stops}
-use Rattle.usp_tool.specs.Sign.Line.{Signs}
+use Rattle.usp_tool.specs.Sign.Line.{SignsLine}
 
 -- The lines so far: what the rest gives is put behind their text
 pub record Signed (attribute : List ℕ) (key : KeyValue) (input : List ℕ) (number : ℕ) (text rest : List ℕ) : Type 0 where
@@ -18,7 +18,7 @@ signed_first attribute key input text none =
     record { carries = λ more all. subst (λ t. SignsAll attribute key 1 (lines_of input) (made (t ++ more.text) more.status)) (sym none) all; count = omega arith }
 
 pub signed_more : (attribute : List ℕ) (key : KeyValue) (input : List ℕ) (number : ℕ) (text rest first more signed whole : List ℕ)
-    → Signed attribute key input number text rest → lines_of rest ≡ first ∷ lines_of more → length more < length rest → Signs attribute key first signed
+    → Signed attribute key input number text rest → lines_of rest ≡ first ∷ lines_of more → length more < length rest → SignsLine attribute key first signed
     → whole ≡ (text ++ signed) ++ 10 ∷ [] → Signed attribute key input (number + 1) whole more
 signed_more attribute key input number text rest first more signed whole k cut shorter s is =
     record {
@@ -34,7 +34,7 @@ signed_more attribute key input number text rest first more signed whole k cut s
     }
 
 pub signed_refused : (attribute : List ℕ) (key : KeyValue) (input : List ℕ) (number : ℕ) (text rest first more whole : List ℕ)
-    → Signed attribute key input number text rest → lines_of rest ≡ first ∷ lines_of more → ((signed : List ℕ) → Signs attribute key first signed → ⊥)
+    → Signed attribute key input number text rest → lines_of rest ≡ first ∷ lines_of more → ((signed : List ℕ) → SignsLine attribute key first signed → ⊥)
     → whole ≡ text ++ (line_refusal number).text → SignsAll attribute key 1 (lines_of input) (made whole Refused)
 signed_refused attribute key input number text rest first more whole k cut none is =
     let here : SignsAll attribute key number (first ∷ lines_of more) (line_refusal number) = stops number first (lines_of more) (line_refusal number) none refl in

@@ -40,7 +40,7 @@ signed_uri attribute key uri members =
 
 -- A line is a URI, a space and claims. What is signed for it is the normal form of the URI, which has no package,
 -- with the sealed claims as its package, no longer than a URI may be.
-pub record Signs (attribute : List ℕ) (key : KeyValue) (line text : List ℕ) : Type 0 where
+pub record SignsLine (attribute : List ℕ) (key : KeyValue) (line text : List ℕ) : Type 0 where
   pub typed : List ℕ
   pub claims : List ℕ
   pub uri : List ℕ

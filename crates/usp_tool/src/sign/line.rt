@@ -6,7 +6,7 @@ ghost use Rattle.usp_jws.specs.Sealed.{sealed};
 ghost use Rattle.usp_uri.specs.declared.fault.TheConstants.{MAX_LEN};
 ghost use Rattle.usp_json.specs.Canon.{canon_members};
 ghost use Rattle.usp_package.specs.Package.{nothing, package_of};
-ghost use Rattle.usp_tool.specs.Sign.Line.{Signs, claims_for, is_open, payload_for, signed_uri};
+ghost use Rattle.usp_tool.specs.Sign.Line.{SignsLine, claims_for, is_open, payload_for, signed_uri};
 
 use crate::memory::NoMemory;
 use std::alloc::Global;
@@ -92,8 +92,8 @@ pub fn sign_line(
     line: &[u8],
 ) -> Result<Option<Vec<u8>>, NoMemory>
     ensures { IfOk result (λ signed. MatchOption signed
-        ((text : List ℕ) → Signs attribute.now key.now line.now text → ⊥)
-        (λ text. Signs attribute.now key.now line.now text.items)) }
+        ((text : List ℕ) → SignsLine attribute.now key.now line.now text → ⊥)
+        (λ text. SignsLine attribute.now key.now line.now text.items)) }
 {
     let Some((typed, claims)) = cut_at(line, b' ') else {
         return Ok(None);
