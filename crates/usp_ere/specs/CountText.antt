@@ -1,16 +1,12 @@
 -- How the counts of a repeat are read, behind its `{`: `m}`, `m,}` or `m,n}`.
 use Rattle.std.specs.Prelude.{ℕ, ◌+◌, ◌-◌, ◌*◌, List, Bool, nat_lt, ◌&&◌, not, if◌then◌else◌, Option, Some, None, codes, length, drop, take, fold, min}
 use Rattle.std.specs.List.{prefix_len}
-use Rattle.usp_ere.specs.Letters.{digit_nine, digit_zero}
-use Rattle.usp_ere.specs.Sets.{between}
+use Rattle.usp_base.specs.Numbers.{digit_0, is_digit}
 use Rattle.usp_ere.specs.SetText.{begins}
-
-abbrev pub is_digit : ℕ → Bool
-is_digit c = between digit_zero digit_nine c
 
 -- the number that decimal digits spell, where 256 stands for each above 255
 abbrev pub value_of : List ℕ → ℕ
-value_of digits = fold (λ v d. min 256 (10 * v + (d - digit_zero))) 0 digits
+value_of digits = fold (λ v d. min 256 (10 * v + (d - digit_0))) 0 digits
 
 -- a number has a digit, and no leading zero
 abbrev pub is_number : List ℕ → Bool

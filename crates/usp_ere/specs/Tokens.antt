@@ -6,7 +6,8 @@ use Rattle.usp_ere.specs.declared.fault.EreFault.TheVariants.{Undefined}
 use Rattle.usp_ere.specs.Sets.{between}
 use Rattle.usp_ere.specs.Expression.{Expr, byte, any, set, at_begin, at_end}
 use Rattle.usp_ere.specs.SetText.{begins, Elements, elements_at}
-use Rattle.usp_ere.specs.CountText.{is_digit, Counted, counts_at}
+use Rattle.usp_base.specs.Numbers.{is_digit}
+use Rattle.usp_ere.specs.CountText.{Counted, counts_at}
 
 pub data Token : Type 0 where
   -- a character, `.` or a set, of so many bytes

@@ -2,14 +2,9 @@
 ghost use Rattle.std.specs.Prelude.{◌≡◌, ◌≤◌, length, IfSome};
 ghost use Rattle.std.specs.List.{prefix_len};
 ghost use Rattle.std.specs.Option.{option_map};
-ghost use Rattle.usp_ere.specs.CountText.{is_digit, value_of, is_number, number_at, counts_at};
-
-/// Whether the byte is a decimal digit.
-pub fn is_digit(byte: u8) -> bool
-    ensures { result ≡ is_digit byte }
-{
-    b'0' <= byte && byte <= b'9'
-}
+ghost use Rattle.usp_base.specs.Numbers.{is_digit};
+ghost use Rattle.usp_ere.specs.CountText.{value_of, is_number, number_at, counts_at};
+use usp_base::is_digit;
 
 /// How many digits stand at the front of the text.
 fn digit_count(text: &[u8]) -> usize

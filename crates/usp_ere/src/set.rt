@@ -4,7 +4,7 @@ ghost use Rattle.usp_ere.specs.Letters.{capital_a, capital_z, small_a, small_z};
 ghost use Rattle.usp_ere.specs.Sets.{between, class_holds};
 
 use crate::class::Class;
-use crate::counts::is_digit;
+use usp_base::is_digit;
 
 /// Whether the byte is of the class.
 pub fn class_has(class: Class, byte: u8) -> bool

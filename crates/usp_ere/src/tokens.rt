@@ -8,14 +8,14 @@ ghost use Rattle.usp_ere.specs.Sets.{between};
 ghost use Rattle.usp_ere.specs.Tokens.{bytes_of, counted, escaped, is_letter_or_digit, set_at, set_token, single, token_at};
 
 use crate::bytes::ByteSet;
-use crate::counts::{counts, is_digit};
+use crate::counts::counts;
 use crate::elements::elements;
 use crate::fault::EreFault;
 use crate::place::skip;
 use crate::set::{is_lower, is_upper};
 use crate::tree::{Set, Tree};
 use std::alloc::{AllocError, Global};
-use usp_base::Rows;
+use usp_base::{Rows, is_digit};
 
 /// A token, with how many bytes it has.
 #[derive(Drop)]

@@ -1,6 +1,6 @@
 use Rattle.std.proofs.Common.{◌≡◌, ◌+◌, drop}
 use Rattle.std.specs.List.{prefix_len}
-use Rattle.usp_ere.specs.CountText.{is_digit}
+use Rattle.usp_base.specs.Numbers.{is_digit}
 use Rattle.usp_ere.proofs.counts.digit_count.Given as goal
 
 -- the digits so far, and those at the front of the rest
