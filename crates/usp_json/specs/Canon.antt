@@ -8,7 +8,7 @@ use Rattle.usp_json.specs.declared.value.Json.TheFolds.{fold-Json, fold-Items, f
 use Rattle.usp_json.specs.declared.value.Items.{Items}
 use Rattle.usp_json.specs.declared.value.Members.{Members}
 use Rattle.usp_json.specs.Spells.{word_of}
-use Rattle.usp_json.specs.Signs.{quotation_mark, value_separator, name_separator, begin_array, end_array, begin_object, end_object}
+use Rattle.usp_json.specs.Signs.{quotation_mark, backslash, space, tab, line_feed, carriage_return, backspace, form_feed, value_separator, name_separator, begin_array, end_array, begin_object, end_object}
 
 -- a hexadecimal digit, in lower case
 abbrev pub hex_digit : ℕ → ℕ
@@ -17,10 +17,11 @@ hex_digit d = if nat_lt d 10 then 48 + d else 87 + d
 -- a byte of a text: quote, backslash and control characters are escaped
 abbrev pub escape_of : ℕ → List ℕ
 escape_of b =
-    if b == 34 then codes "\\\"" else (if b == 92 then codes "\\\\" else (if b == 8 then codes "\\b"
-    else (if b == 9 then codes "\\t" else (if b == 10 then codes "\\n" else (if b == 12 then codes "\\f"
-    else (if b == 13 then codes "\\r"
-    else (if nat_lt b 32 then codes "\\u00" ++ hex_digit (b / 16) ∷ hex_digit (b % 16) ∷ [] else b ∷ [])))))))
+    if b == quotation_mark then codes "\\\"" else (if b == backslash then codes "\\\\"
+    else (if b == backspace then codes "\\b" else (if b == tab then codes "\\t"
+    else (if b == line_feed then codes "\\n" else (if b == form_feed then codes "\\f"
+    else (if b == carriage_return then codes "\\r"
+    else (if nat_lt b space then codes "\\u00" ++ hex_digit (b / 16) ∷ hex_digit (b % 16) ∷ [] else b ∷ [])))))))
 
 abbrev pub escaped_text : List ℕ → List ℕ
 escaped_text [] = []

@@ -2,7 +2,7 @@
 use Rattle.std.specs.Prelude.{◌≡◌, ◌≢◌, ◌⊎◌, ℕ, ◌+◌, ◌*◌, ◌-◌, ◌<◌, ◌≤◌, ◌==◌, ◌||◌, ◌&&◌, nat_le, Bool, true, List, [], ◌∷◌, ◌++◌, length, slice_index, not, Option, Some, None, if◌then◌else◌, encode_utf8}
 use Rattle.std.specs.Char.{IsScalar}
 use Rattle.usp_base.specs.Numbers.{digit_0, is_digit}
-use Rattle.usp_json.specs.Signs.{quotation_mark, plus_sign, minus_sign, decimal_point, backslash}
+use Rattle.usp_json.specs.Signs.{quotation_mark, plus_sign, minus_sign, decimal_point, backslash, slash, space, tab, line_feed, carriage_return, backspace, form_feed, letter_a, letter_b, letter_e, letter_f, letter_n, letter_r, letter_t, letter_u, capital_a, capital_e, capital_f}
 
 -- each byte passes the test
 abbrev pub Each : (ℕ → Bool) → List ℕ → Type 0
@@ -15,7 +15,7 @@ IsBytes text = (i : ℕ) → slice_index text i < 256
 
 -- white space: space, tab, line feed, carriage return
 abbrev pub is_space : ℕ → Bool
-is_space b = b == 32 || b == 9 || b == 10 || b == 13
+is_space b = b == space || b == tab || b == line_feed || b == carriage_return
 
 abbrev pub IsSpace : List ℕ → Type 0
 IsSpace text = Each is_space text
@@ -39,7 +39,7 @@ IsFraction text = (text ≡ []) ⊎ ((digits : List ℕ) × (text ≡ decimal_po
 
 -- `e` or `E`; a plus or a minus
 abbrev pub is_mark : ℕ → Bool
-is_mark b = b == 101 || b == 69
+is_mark b = b == letter_e || b == capital_e
 
 abbrev pub is_sign : ℕ → Bool
 is_sign b = b == plus_sign || b == minus_sign
@@ -79,8 +79,8 @@ pub record IsNumber (text : List ℕ) : Type 0 where
 abbrev pub hex_value : ℕ → Option ℕ
 hex_value b =
     if is_digit b then Some (b - digit_0)
-    else (if nat_le 97 b && nat_le b 102 then Some (b - 87)
-    else (if nat_le 65 b && nat_le b 70 then Some (b - 55) else None))
+    else (if nat_le letter_a b && nat_le b letter_f then Some (b - 87)
+    else (if nat_le capital_a b && nat_le b capital_f then Some (b - 55) else None))
 
 -- a `\u` with four hexadecimal digits of that value
 pub record IsUnit (unit : ℕ) (text : List ℕ) : Type 0 where
@@ -97,23 +97,28 @@ pub record IsUnit (unit : ℕ) (text : List ℕ) : Type 0 where
   pub third : hex_value c ≡ Some y
   pub fourth : hex_value d ≡ Some z
   pub value : unit ≡ ((w * 16 + x) * 16 + y) * 16 + z
-  pub spelled : text ≡ backslash ∷ 117 ∷ a ∷ b ∷ c ∷ d ∷ []
+  pub spelled : text ≡ backslash ∷ letter_u ∷ a ∷ b ∷ c ∷ d ∷ []
 
 -- the character of a short escape, by its letter
 abbrev pub escaped : ℕ → Option ℕ
 escaped b =
-    if b == 34 then Some 34 else (if b == 92 then Some 92 else (if b == 47 then Some 47
-    else (if b == 98 then Some 8 else (if b == 102 then Some 12 else (if b == 110 then Some 10
-    else (if b == 114 then Some 13 else (if b == 116 then Some 9 else None)))))))
+    if b == quotation_mark then Some quotation_mark
+    else (if b == backslash then Some backslash
+    else (if b == slash then Some slash
+    else (if b == letter_b then Some backspace
+    else (if b == letter_f then Some form_feed
+    else (if b == letter_n then Some line_feed
+    else (if b == letter_r then Some carriage_return
+    else (if b == letter_t then Some tab else None)))))))
 
 -- a byte that may stand for itself (`unescaped`): no control character, quote or backslash
 abbrev pub is_unescaped : ℕ → Bool
-is_unescaped b = nat_le 32 b && not (b == quotation_mark || b == backslash)
+is_unescaped b = nat_le space b && not (b == quotation_mark || b == backslash)
 
 -- a spelling of the character c: its own UTF-8, a short escape, its number, or a surrogate pair
 pub data SpellsChar (c : ℕ) (text : List ℕ) : Type 0 where
-  plain : IsScalar c → 32 ≤ c → c ≢ quotation_mark → c ≢ backslash → text ≡ encode_utf8 c → SpellsChar c text
-  short : (letter : ℕ) → escaped letter ≡ Some c → text ≡ 92 ∷ letter ∷ [] → SpellsChar c text
+  plain : IsScalar c → space ≤ c → c ≢ quotation_mark → c ≢ backslash → text ≡ encode_utf8 c → SpellsChar c text
+  short : (letter : ℕ) → escaped letter ≡ Some c → text ≡ backslash ∷ letter ∷ [] → SpellsChar c text
   unit : IsScalar c → IsUnit c text → SpellsChar c text
   pair : (high low : ℕ) (front back : List ℕ) → 55296 ≤ high → high < 56320 → 56320 ≤ low → low < 57344
       → c ≡ 65536 + (high - 55296) * 1024 + (low - 56320) → IsUnit high front → IsUnit low back → text ≡ front ++ back

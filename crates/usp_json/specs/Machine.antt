@@ -21,7 +21,7 @@ use Rattle.usp_json.specs.Grammar.{is_space}
 use Rattle.usp_json.specs.Number.{number_first, number_step, is_whole_number, is_number}
 use Rattle.usp_json.specs.Pieces.{piece_step}
 use Rattle.usp_json.specs.Spells.{Limits, has_name}
-use Rattle.usp_json.specs.Signs.{quotation_mark, value_separator, name_separator, begin_array, end_array, begin_object, end_object}
+use Rattle.usp_json.specs.Signs.{quotation_mark, value_separator, name_separator, begin_array, end_array, begin_object, end_object, letter_f, letter_n, letter_t}
 
 -- what comes next, the bytes of the text or number that is being read, and the open frames, the innermost first
 pub record State : Type 0 where
@@ -62,9 +62,9 @@ other_value limits frames b =
     else (if b == begin_array then (if opens limits frames then Some (at ValueOrEnd (Array [] ∷ frames)) else None)
     else (if b == begin_object
     then (if opens limits frames then Some (at NameOrEnd (OpenObject [] [] ∷ frames)) else None)
-    else (if b == 110 then Some (at (Letters word.Null 1) frames)
-    else (if b == 116 then Some (at (Letters word.True 1) frames)
-    else (if b == 102 then Some (at (Letters word.False 1) frames) else None)))))
+    else (if b == letter_n then Some (at (Letters word.Null 1) frames)
+    else (if b == letter_t then Some (at (Letters word.True 1) frames)
+    else (if b == letter_f then Some (at (Letters word.False 1) frames) else None)))))
 
 abbrev pub value_from : Limits → List Frame → ℕ → Option NumberPart → Option State
 value_from limits frames b None = other_value limits frames b

@@ -3,7 +3,7 @@ use Rattle.std.specs.Prelude.{ℕ, ◌+◌, ◌*◌, ◌-◌, ◌==◌, ◌&&◌
 use Rattle.usp_json.specs.Grammar.{hex_value, escaped}
 use Rattle.usp_json.specs.declared.states.Piece.{Piece}
 use Rattle.usp_json.specs.declared.states.Piece.TheVariants.{Start, Last, LastButOne, LastButTwo, Letter, First, Second, Third, Fourth, Backslash, U}
-use Rattle.usp_json.specs.Signs.{quotation_mark, backslash}
+use Rattle.usp_json.specs.Signs.{quotation_mark, backslash, space, letter_u}
 
 -- what comes next, and the bytes of the text so far
 abbrev pub Read : Type 0
@@ -12,12 +12,12 @@ Read = Piece × List ℕ
 abbrev pub between : ℕ → ℕ → ℕ → Bool
 between least most b = nat_le least b && nat_le b most
 
--- the first byte of a character; a quote is none
+-- the first byte of a character, and between which bytes the next one is (RFC 3629 section 4); a quote is none
 abbrev pub start_step : List ℕ → ℕ → Option Read
 start_step got b =
     if b == quotation_mark then None
     else (if b == backslash then Some (Letter, got)
-    else (if between 32 127 b then Some (Start, got ++ b ∷ [])
+    else (if between space 127 b then Some (Start, got ++ b ∷ [])
     else (if between 194 223 b then Some (Last, got ++ b ∷ [])
     else (if b == 224 then Some (LastButOne 160 191, got ++ b ∷ [])
     else (if b == 237 then Some (LastButOne 128 159, got ++ b ∷ [])
@@ -28,7 +28,7 @@ start_step got b =
 
 abbrev pub letter_step : List ℕ → ℕ → Option Read
 letter_step got b =
-    if b == 117 then Some (First 0, got) else option_and_then (λ c. Some (Start, got ++ encode_utf8 c)) (escaped b)
+    if b == letter_u then Some (First 0, got) else option_and_then (λ c. Some (Start, got ++ encode_utf8 c)) (escaped b)
 
 -- the first two digits may begin a number that may stand here: behind a high surrogate only a low one, and else no low
 -- one
@@ -59,7 +59,7 @@ piece_step (Second high value) got b =
 piece_step (Third high value) got b = option_and_then (λ d. Some (Fourth high (value * 16 + d), got)) (hex_value b)
 piece_step (Fourth high value) got b = option_and_then (λ d. Some (unit_step high got (value * 16 + d))) (hex_value b)
 piece_step (Backslash high) got b = if b == backslash then Some (U high, got) else None
-piece_step (U high) got b = if b == 117 then Some (First high, got) else None
+piece_step (U high) got b = if b == letter_u then Some (First high, got) else None
 
 abbrev pub pieces_run : Piece → List ℕ → List ℕ → Option Read
 pieces_run piece got [] = Some (piece, got)

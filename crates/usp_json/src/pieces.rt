@@ -21,10 +21,10 @@ fn hex_value(b: u8) -> Option<u32>
         return Some(u32::from(b - b'0'));
     }
     if between(b'a', b'f', b) {
-        return Some(u32::from(b - 87));
+        return Some(u32::from(b - b'a' + 10));
     }
     if between(b'A', b'F', b) {
-        return Some(u32::from(b - 55));
+        return Some(u32::from(b - b'A' + 10));
     }
     None
 }
@@ -33,14 +33,14 @@ fn short_escape(b: u8) -> Option<u32>
     ensures { result ≡ escaped b }
 {
     match b {
-        b'"' => Some(34),
-        b'\\' => Some(92),
-        b'/' => Some(47),
-        b'b' => Some(8),
-        b'f' => Some(12),
-        b'n' => Some(10),
-        b'r' => Some(13),
-        b't' => Some(9),
+        b'"' => Some(u32::from(b'"')),
+        b'\\' => Some(u32::from(b'\\')),
+        b'/' => Some(u32::from(b'/')),
+        b'b' => Some(u32::from(b'\x08')),
+        b'f' => Some(u32::from(b'\x0c')),
+        b'n' => Some(u32::from(b'\n')),
+        b'r' => Some(u32::from(b'\r')),
+        b't' => Some(u32::from(b'\t')),
         _ => None,
     }
 }
@@ -72,8 +72,8 @@ fn push_utf8(got: &mut Vec<u8>, c: u32) -> Result<(), AllocError>
     ])
 }
 
-// The byte is kept.
-fn kept(got: &mut Vec<u8>, b: u8, next: Piece) -> Result<Option<Piece>, AllocError>
+// The byte goes to those of the text.
+fn keep_byte(got: &mut Vec<u8>, b: u8, next: Piece) -> Result<Option<Piece>, AllocError>
     ensures { IfOk result (λ moved.
         (moved ≡ Some next) × (got.new.items ≡ got.old.items ++ b ∷ [])) }
 {
@@ -91,69 +91,69 @@ fn start_step(got: &mut Vec<u8>, b: u8) -> Result<Option<Piece>, AllocError>
     if b == b'\\' {
         return Ok(Some(Piece::Letter));
     }
-    if between(32, 127, b) {
-        return kept(got, b, Piece::Start);
+    if between(b' ', b'\x7f', b) {
+        return keep_byte(got, b, Piece::Start);
     }
-    if between(194, 223, b) {
-        return kept(got, b, Piece::Last);
+    if between(b'\xc2', b'\xdf', b) {
+        return keep_byte(got, b, Piece::Last);
     }
-    if b == 224 {
-        return kept(
+    if b == b'\xe0' {
+        return keep_byte(
             got,
             b,
             Piece::LastButOne {
-                least: 160,
-                most: 191,
+                least: b'\xa0',
+                most: b'\xbf',
             },
         );
     }
-    if b == 237 {
-        return kept(
+    if b == b'\xed' {
+        return keep_byte(
             got,
             b,
             Piece::LastButOne {
-                least: 128,
-                most: 159,
+                least: b'\x80',
+                most: b'\x9f',
             },
         );
     }
-    if between(225, 239, b) {
-        return kept(
+    if between(b'\xe1', b'\xef', b) {
+        return keep_byte(
             got,
             b,
             Piece::LastButOne {
-                least: 128,
-                most: 191,
+                least: b'\x80',
+                most: b'\xbf',
             },
         );
     }
-    if b == 240 {
-        return kept(
+    if b == b'\xf0' {
+        return keep_byte(
             got,
             b,
             Piece::LastButTwo {
-                least: 144,
-                most: 191,
+                least: b'\x90',
+                most: b'\xbf',
             },
         );
     }
-    if between(241, 243, b) {
-        return kept(
+    if between(b'\xf1', b'\xf3', b) {
+        return keep_byte(
             got,
             b,
             Piece::LastButTwo {
-                least: 128,
-                most: 191,
+                least: b'\x80',
+                most: b'\xbf',
             },
         );
     }
-    if b == 244 {
-        return kept(
+    if b == b'\xf4' {
+        return keep_byte(
             got,
             b,
             Piece::LastButTwo {
-                least: 128,
-                most: 143,
+                least: b'\x80',
+                most: b'\x8f',
             },
         );
     }
@@ -248,7 +248,7 @@ fn within_step(
         × (got.new.items ≡ got.old.items ++ b ∷ []))) }
 {
     if between(least, most, b) {
-        return kept(got, b, next);
+        return keep_byte(got, b, next);
     }
     Ok(None)
 }
@@ -265,7 +265,7 @@ pub(crate) fn piece_step(
 {
     match piece {
         Piece::Start => start_step(got, b),
-        Piece::Last => within_step(got, b, 128, 191, Piece::Start),
+        Piece::Last => within_step(got, b, b'\x80', b'\xbf', Piece::Start),
         Piece::LastButOne { least, most } => within_step(got, b, least, most, Piece::Last),
         Piece::LastButTwo { least, most } => within_step(
             got,
@@ -273,8 +273,8 @@ pub(crate) fn piece_step(
             least,
             most,
             Piece::LastButOne {
-                least: 128,
-                most: 191,
+                least: b'\x80',
+                most: b'\xbf',
             },
         ),
         Piece::Letter => letter_step(got, b),

@@ -2,7 +2,7 @@
 
 ghost use Rattle.std.specs.Prelude.{◌≡◌, ◌<◌, ◌++◌, ◌∷◌, [], length, reverse, drop, slice_get, OnOk, IfOk, MatchOption, None, Some, true, false, ◌==◌, if◌then◌else◌};
 ghost use Rattle.std.specs.Str.{IsUtf8, bytes_eq};
-ghost use Rattle.usp_json.specs.Signs.{decimal_point};
+ghost use Rattle.usp_json.specs.Signs.{decimal_point, quotation_mark};
 ghost use Rattle.usp_json.specs.Number.{number_first, number_step, is_whole_number, is_number};
 ghost use Rattle.usp_json.specs.Grammar.{is_space, is_mark, is_sign};
 ghost use Rattle.usp_json.specs.Spells.{given, has_name};
@@ -286,7 +286,7 @@ fn is_closing(piece: Piece, b: u8) -> bool
     }
 }
 
-fn taken(alloc: Global, got: &mut Vec<u8>) -> Vec<u8>
+fn take_bytes(alloc: Global, got: &mut Vec<u8>) -> Vec<u8>
     ensures taken { result.items ≡ got.old.items }
     ensures left { got.new.items ≡ [] }
 {
@@ -303,14 +303,14 @@ fn text_step(
     b: u8,
 ) -> Result<Option<Expect>, AllocError>
     requires fits { Fits piece }
-    requires utf8 { is_closing piece 34 ≡ true → IsUtf8 got.old.items }
+    requires utf8 { is_closing piece quotation_mark ≡ true → IsUtf8 got.old.items }
     ensures { IfOk result (λ moved.
         MatchOption moved (text_step given role piece got.old.items (reverse frames.old.items) b ≡ None)
         (λ e. text_step given role piece got.old.items (reverse frames.old.items) b
         ≡ Some (state_of e got.new.items frames.new.items))) }
 {
     if is_closing(piece, b) {
-        let text = Text::from_bytes(taken(alloc, got));
+        let text = Text::from_bytes(take_bytes(alloc, got));
         return text_end(role, text, frames);
     }
     match piece_step(piece, got, b)? {
@@ -340,7 +340,7 @@ fn number_byte(
     if !is_whole_number(part) {
         return Ok(None);
     }
-    let number = NumText::from_bytes(taken(alloc, got));
+    let number = NumText::from_bytes(take_bytes(alloc, got));
     put(frames, Json::Num(number))?;
     comma_step(frames, b)
 }

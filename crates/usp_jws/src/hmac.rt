@@ -37,7 +37,7 @@ fn add_pad(block: &mut [u8], pad: u8)
 }
 
 // A hasher that holds the key's block xor the pad.
-fn padded(key: &[u8], pad: u8) -> Sha256
+fn pad_hasher(key: &[u8], pad: u8) -> Sha256
     ensures { Holds256 result (xored pad (key_block key.now)) }
 {
     let mut block = block_of(key);
@@ -51,14 +51,14 @@ fn padded(key: &[u8], pad: u8) -> Sha256
 pub(crate) fn inner_of(key: &[u8]) -> Sha256
     ensures { Holds256 result (xored 0x36 (key_block key.now)) }
 {
-    padded(key, INNER)
+    pad_hasher(key, INNER)
 }
 
 /// A hasher that holds the outer pad of a key.
 pub(crate) fn outer_of(key: &[u8]) -> Sha256
     ensures { Holds256 result (xored 0x5c (key_block key.now)) }
 {
-    padded(key, OUTER)
+    pad_hasher(key, OUTER)
 }
 
 /// The MAC of a text, from hashers that hold the key's two pads.
