@@ -1,12 +1,10 @@
 //! The time.
 ghost use Rattle.std.specs.Prelude.{◌≡◌, ◌<◌, List, [], ◌∷◌, All, ℕ, Option, Some, vec_len};
 ghost use Rattle.std.specs.Io.KnownBytes.{append_known};
-ghost use Rattle.usp_base.specs.declared.clock.TheConstants.{MOMENT_BOUND};
+ghost use Rattle.usp_base.specs.declared.limits.TheConstants.{MOMENT_BOUND};
 
+use crate::limits::MOMENT_BOUND;
 use http_server::Log;
-
-/// Every moment is below this: 2^52 seconds since 1970, which is a limit of this project.
-pub const MOMENT_BOUND: u64 = 1 << 52;
 
 /// Something that tells the time.
 pub trait Clock {

@@ -24,15 +24,15 @@ mod tests;
 mod wire;
 
 pub use blanks::trim_blanks;
-pub use clock::{Clock, ListedClock, MOMENT_BOUND, SteadyClock};
+pub use clock::{Clock, ListedClock, SteadyClock};
 pub use cuts::{after_prefix, cut_at, without_end};
 pub use door::{Door, ListedDoor, SteadyDoor};
 pub use failures::Failures;
 pub use fault::{Failed, LoadFault, Status};
 pub use files::{Files, ListedFiles, MemoryFile, SteadyFiles};
-pub use limits::limits_are_told;
+pub use limits::{LONGEST_ANSWER, MOMENT_BOUND, limits_are_told};
 pub use lines::first_line;
-pub use link::{Asked, LONGEST_ANSWER, Link, ListedLink, SteadyLink};
+pub use link::{Asked, Link, ListedLink, SteadyLink};
 pub use numbers::{is_digit, read_number};
 pub use objects::{ListedObjects, Objects, SteadyObjects};
 pub use octets::Octets;

@@ -1,8 +1,11 @@
-//! The limits of this crate.
+//! What this crate allows at most.
 ghost use Rattle.std.specs.Prelude.{◌≡◌};
 
-use crate::clock::MOMENT_BOUND;
-use crate::link::LONGEST_ANSWER;
+/// Every moment is below this: 2^52 seconds since 1970, which is a limit of this project.
+pub const MOMENT_BOUND: u64 = 1 << 52;
+
+/// The longest answer of a link in bytes, which is a limit of this project.
+pub const LONGEST_ANSWER: usize = 16_777_216;
 
 /// Which number each limit is.
 pub fn limits_are_told()

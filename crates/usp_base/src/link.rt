@@ -3,13 +3,11 @@ ghost use Rattle.std.specs.Prelude.{◌≡◌, ◌≤◌, List, [], ℕ, Option,
 ghost use Rattle.usp_base.specs.Counts.{HasCause};
 ghost use Rattle.usp_base.specs.Links.{asked_with, asks_after};
 ghost use Rattle.usp_base.specs.declared.link.Asked.{Asked};
-ghost use Rattle.usp_base.specs.declared.link.TheConstants.{LONGEST_ANSWER};
+ghost use Rattle.usp_base.specs.declared.limits.TheConstants.{LONGEST_ANSWER};
 
+use crate::limits::LONGEST_ANSWER;
 use crate::{Failures, LoadFault, Octets};
 use std::alloc::{AllocError, Global};
-
-/// The longest answer of a link in bytes, which is a limit of this project.
-pub const LONGEST_ANSWER: usize = 16_777_216;
 
 /// Where the requests of a player go.
 pub trait Link {

@@ -1,7 +1,7 @@
 //! The tests as functions of the caller.
 
 ghost use Rattle.std.specs.Prelude.{◌≡◌, ◌<◌};
-ghost use Rattle.usp_base.specs.declared.clock.TheConstants.{MOMENT_BOUND};
+ghost use Rattle.usp_base.specs.declared.limits.TheConstants.{MOMENT_BOUND};
 ghost use Rattle.usp_ext.specs.Tests.{means};
 ghost use Rattle.usp_ext.specs.declared.kinds.TestKind.{TestKind};
 

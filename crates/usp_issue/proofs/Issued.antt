@@ -10,7 +10,7 @@ use Rattle.usp_jws.specs.Sealed.{sealed}
 use Rattle.usp_package.specs.Package.{embedded, nothing, package_of}
 use Rattle.usp_uri.specs.Components.{path_in, query_in}
 use Rattle.usp_uri.specs.Origin.{moved_of}
-use Rattle.usp_uri.specs.declared.fault.TheConstants.{MAX_LEN}
+use Rattle.usp_uri.specs.declared.limits.TheConstants.{MAX_LEN}
 use Rattle.usp_issue.specs.Redirections.{IsPresent, IsTooLong, SendsFrom, Signs, elsewhere, refused, sends}
 use Rattle.usp_issue.specs.Renewals.{IsRenewed, renew}
 use Rattle.usp_issue.specs.Resignings.{IsResigned, Resigns}

@@ -4,7 +4,7 @@ use Rattle.std.specs.Fmt.{decimal}
 use Rattle.std.specs.Option.{is_some}
 use Rattle.std.specs.Str.{IsUtf8}
 use Rattle.std.proofs.lemmas.Str.{IsAscii-append, IsUtf8-from_ascii}
-use Rattle.usp_base.specs.declared.clock.TheConstants.{MOMENT_BOUND}
+use Rattle.usp_base.specs.declared.limits.TheConstants.{MOMENT_BOUND}
 use Rattle.usp_claims.proofs.Counts.{there_kept, wider_kept}
 use Rattle.usp_claims.proofs.Named.{still_kept}
 use Rattle.usp_claims.specs.Changes.{with_claim}

@@ -1,6 +1,6 @@
 -- Claims that are renewed, or signed again, and sealed are read as themselves.
 use Rattle.std.proofs.Common.{◌≡◌, ℕ, ◌<◌, true, List, Some, sym, ◌∙◌, subst}
-use Rattle.usp_base.specs.declared.clock.TheConstants.{MOMENT_BOUND}
+use Rattle.usp_base.specs.declared.limits.TheConstants.{MOMENT_BOUND}
 use Rattle.usp_json.proofs.ByteLaws.{reading_bytes}
 use Rattle.usp_json.proofs.CanonLaws.{reads_back_within}
 use Rattle.usp_json.proofs.FaultLaws.{reads_once}

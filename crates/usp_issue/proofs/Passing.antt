@@ -6,7 +6,7 @@ use Rattle.std.specs.Option.{is_some, option_and_then, option_map, option_map_or
 use Rattle.std.specs.Str.{bytes_eq}
 use Rattle.std.proofs.lemmas.Bool.{and_parts, leb-true}
 use Rattle.std.proofs.lemmas.Slice.Eq.{bytes_eq-Decides}
-use Rattle.usp_base.specs.declared.clock.TheConstants.{MOMENT_BOUND}
+use Rattle.usp_base.specs.declared.limits.TheConstants.{MOMENT_BOUND}
 use Rattle.usp_claims.proofs.Decimals.{text_of}
 use Rattle.usp_claims.proofs.Rows.{tells}
 use Rattle.usp_claims.specs.Table.{claim, is_audience, whole_in}

@@ -6,7 +6,7 @@ use Rattle.std.specs.Str.{bytes_eq}
 use Rattle.std.proofs.lemmas.Bool.{and_parts, leb-true}
 use Rattle.std.proofs.lemmas.Option.{cond_some}
 use Rattle.std.proofs.lemmas.Slice.Eq.{bytes_eq-Decides}
-use Rattle.usp_base.specs.declared.clock.TheConstants.{MOMENT_BOUND}
+use Rattle.usp_base.specs.declared.limits.TheConstants.{MOMENT_BOUND}
 use Rattle.usp_base.specs.Numbers.{is_whole, number_of, value_of}
 use Rattle.usp_claims.proofs.ChangeLaws.{other_claim, this_claim}
 use Rattle.usp_claims.proofs.Decimals.{text_of, whole_number}

@@ -6,7 +6,7 @@ use Rattle.usp_json.specs.declared.value.Members.{Members}
 use Rattle.usp_package.specs.Package.{embedded, nothing, package_of}
 use Rattle.usp_uri.specs.Components.{path_in, query_in}
 use Rattle.usp_uri.specs.Origin.{moved_of}
-use Rattle.usp_uri.specs.declared.fault.TheConstants.{MAX_LEN}
+use Rattle.usp_uri.specs.declared.limits.TheConstants.{MAX_LEN}
 use Rattle.usp_uri.specs.declared.fault.UriFault.TheVariants as fault
 use Rattle.usp_issue.specs.Resignings.{IsResigned}
 use Rattle.usp_issue.specs.Routes.{RouteValue}

@@ -4,7 +4,7 @@ ghost use Rattle.std.specs.Prelude.{◌≡◌, ◌⊎◌, ◌+◌, ◌<◌, ◌�
 ghost use Rattle.std.specs.Fmt.{decimal};
 ghost use Rattle.std.specs.Option.{option_map};
 ghost use Rattle.std.specs.Str.{bytes_eq};
-ghost use Rattle.usp_base.specs.declared.clock.TheConstants.{MOMENT_BOUND};
+ghost use Rattle.usp_base.specs.declared.limits.TheConstants.{MOMENT_BOUND};
 ghost use Rattle.usp_claims.specs.Table.{claim, text_claim};
 ghost use Rattle.usp_claims.specs.declared.limits.TheConstants.{MAX_PAYLOAD};
 ghost use Rattle.usp_json.specs.Canon.{canon_members};

@@ -3,7 +3,7 @@
 ghost use Rattle.std.specs.Prelude.{◌≡◌, ◌⊎◌, ◌≤◌, ◌<◌, ◌+◌, ◌∷◌, List, Option, Some, ℕ, length, IfOk, IfSome, MatchOption};
 ghost use Rattle.std.specs.Option.{is_some};
 ghost use Rattle.usp_base.specs.Cuts.{after_prefix};
-ghost use Rattle.usp_base.specs.declared.clock.TheConstants.{MOMENT_BOUND};
+ghost use Rattle.usp_base.specs.declared.limits.TheConstants.{MOMENT_BOUND};
 ghost use Rattle.usp_json.specs.Canon.{canon_members};
 ghost use Rattle.usp_uri.specs.Components.{path_in};
 ghost use Rattle.usp_issue.specs.Redirections.{IsPresent, IsTooLong, SendsFrom, Signs};

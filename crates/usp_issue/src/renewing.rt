@@ -1,7 +1,7 @@
 //! Renewal: a token for one more period (RFC 9246 section 3).
 
 ghost use Rattle.std.specs.Prelude.{◌≡◌, ◌≤◌, ◌<◌, length, IfOk, IfSome};
-ghost use Rattle.usp_base.specs.declared.clock.TheConstants.{MOMENT_BOUND};
+ghost use Rattle.usp_base.specs.declared.limits.TheConstants.{MOMENT_BOUND};
 ghost use Rattle.usp_claims.specs.declared.limits.TheConstants.{MAX_PERIOD};
 ghost use Rattle.usp_json.specs.Canon.{canon_members};
 ghost use Rattle.usp_issue.specs.Renewals.{Renews, for_period, is_deep_enough, is_renewing, renew};

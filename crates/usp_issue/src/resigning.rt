@@ -1,7 +1,7 @@
 //! Signing again: a token for the place that a request is sent on to (RFC 9246 section 2).
 
 ghost use Rattle.std.specs.Prelude.{◌≡◌, ◌≢◌, ◌↔◌, ◌≤◌, ◌<◌, ◌+◌, List, ℕ, length, IsTrue, IfOk, IfErr, Ok, Err};
-ghost use Rattle.usp_base.specs.declared.clock.TheConstants.{MOMENT_BOUND};
+ghost use Rattle.usp_base.specs.declared.limits.TheConstants.{MOMENT_BOUND};
 ghost use Rattle.usp_json.specs.Canon.{canon_members};
 ghost use Rattle.usp_json.specs.declared.value.Members.{Members};
 ghost use Rattle.usp_package.specs.Package.{embedded, nothing, package_of};

@@ -81,6 +81,20 @@ fn keep_byte(got: &mut Vec<u8>, b: u8, next: Piece) -> Result<Option<Piece>, All
     Ok(Some(next))
 }
 
+/// The next byte is the last but one of a character, in these bounds (RFC 3629 section 4).
+fn last_but_one(least: u8, most: u8) -> Piece
+    ensures { result ≡ Piece.LastButOne least most }
+{
+    Piece::LastButOne { least, most }
+}
+
+/// The next byte is the last but two of a character, in these bounds (RFC 3629 section 4).
+fn last_but_two(least: u8, most: u8) -> Piece
+    ensures { result ≡ Piece.LastButTwo least most }
+{
+    Piece::LastButTwo { least, most }
+}
+
 fn start_step(got: &mut Vec<u8>, b: u8) -> Result<Option<Piece>, AllocError>
     ensures { IfOk result (λ moved. MatchOption moved (start_step got.old.items b ≡ None)
         (λ next. start_step got.old.items b ≡ Some (next, got.new.items))) }
@@ -98,64 +112,22 @@ fn start_step(got: &mut Vec<u8>, b: u8) -> Result<Option<Piece>, AllocError>
         return keep_byte(got, b, Piece::Last);
     }
     if b == b'\xe0' {
-        return keep_byte(
-            got,
-            b,
-            Piece::LastButOne {
-                least: b'\xa0',
-                most: b'\xbf',
-            },
-        );
+        return keep_byte(got, b, last_but_one(b'\xa0', b'\xbf'));
     }
     if b == b'\xed' {
-        return keep_byte(
-            got,
-            b,
-            Piece::LastButOne {
-                least: b'\x80',
-                most: b'\x9f',
-            },
-        );
+        return keep_byte(got, b, last_but_one(b'\x80', b'\x9f'));
     }
     if between(b'\xe1', b'\xef', b) {
-        return keep_byte(
-            got,
-            b,
-            Piece::LastButOne {
-                least: b'\x80',
-                most: b'\xbf',
-            },
-        );
+        return keep_byte(got, b, last_but_one(b'\x80', b'\xbf'));
     }
     if b == b'\xf0' {
-        return keep_byte(
-            got,
-            b,
-            Piece::LastButTwo {
-                least: b'\x90',
-                most: b'\xbf',
-            },
-        );
+        return keep_byte(got, b, last_but_two(b'\x90', b'\xbf'));
     }
     if between(b'\xf1', b'\xf3', b) {
-        return keep_byte(
-            got,
-            b,
-            Piece::LastButTwo {
-                least: b'\x80',
-                most: b'\xbf',
-            },
-        );
+        return keep_byte(got, b, last_but_two(b'\x80', b'\xbf'));
     }
     if b == b'\xf4' {
-        return keep_byte(
-            got,
-            b,
-            Piece::LastButTwo {
-                least: b'\x80',
-                most: b'\x8f',
-            },
-        );
+        return keep_byte(got, b, last_but_two(b'\x80', b'\x8f'));
     }
     Ok(None)
 }

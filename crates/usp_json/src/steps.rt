@@ -2,6 +2,7 @@
 
 ghost use Rattle.std.specs.Prelude.{◌≡◌, ◌<◌, ◌++◌, ◌∷◌, [], length, reverse, drop, slice_get, OnOk, IfOk, MatchOption, None, Some, true, false, ◌==◌, if◌then◌else◌};
 ghost use Rattle.std.specs.Str.{IsUtf8, bytes_eq};
+ghost use Rattle.usp_base.specs.Numbers.{is_digit};
 ghost use Rattle.usp_json.specs.Signs.{decimal_point, quotation_mark};
 ghost use Rattle.usp_json.specs.Number.{number_first, number_step, is_whole_number, is_number};
 ghost use Rattle.usp_json.specs.Grammar.{is_space, is_mark, is_sign};
@@ -49,58 +50,28 @@ fn after_digits(b: u8, point: bool) -> Option<NumberPart>
     None
 }
 
+/// The part behind a digit. None where the byte is none.
+fn behind_digit(b: u8, next: NumberPart) -> Option<NumberPart>
+    ensures { result ≡ if is_digit b then Some next else None }
+{
+    if is_digit(b) { Some(next) } else { None }
+}
+
 fn number_step(part: NumberPart, b: u8) -> Option<NumberPart>
     ensures { result ≡ number_step part b }
 {
     match part {
-        NumberPart::Minus => {
-            if b == b'0' {
-                return Some(NumberPart::Zero);
-            }
-            if is_digit(b) {
-                Some(NumberPart::Whole)
-            } else {
-                None
-            }
-        }
+        NumberPart::Minus if b == b'0' => Some(NumberPart::Zero),
+        NumberPart::Minus => behind_digit(b, NumberPart::Whole),
         NumberPart::Zero => after_digits(b, true),
-        NumberPart::Whole => {
-            if is_digit(b) {
-                Some(NumberPart::Whole)
-            } else {
-                after_digits(b, true)
-            }
-        }
-        NumberPart::Point => {
-            if is_digit(b) {
-                Some(NumberPart::Fraction)
-            } else {
-                None
-            }
-        }
-        NumberPart::Fraction => {
-            if is_digit(b) {
-                Some(NumberPart::Fraction)
-            } else {
-                after_digits(b, false)
-            }
-        }
-        NumberPart::Mark => {
-            if is_digit(b) {
-                return Some(NumberPart::Exponent);
-            }
-            if is_sign(b) {
-                Some(NumberPart::Sign)
-            } else {
-                None
-            }
-        }
-        NumberPart::Sign | NumberPart::Exponent => {
-            if is_digit(b) {
-                Some(NumberPart::Exponent)
-            } else {
-                None
-            }
+        NumberPart::Whole if is_digit(b) => Some(NumberPart::Whole),
+        NumberPart::Whole => after_digits(b, true),
+        NumberPart::Point => behind_digit(b, NumberPart::Fraction),
+        NumberPart::Fraction if is_digit(b) => Some(NumberPart::Fraction),
+        NumberPart::Fraction => after_digits(b, false),
+        NumberPart::Mark if is_sign(b) && !is_digit(b) => Some(NumberPart::Sign),
+        NumberPart::Mark | NumberPart::Sign | NumberPart::Exponent => {
+            behind_digit(b, NumberPart::Exponent)
         }
     }
 }

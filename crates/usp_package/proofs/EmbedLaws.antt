@@ -6,7 +6,7 @@ use Rattle.std.proofs.lemmas.Bool.{lt-ltb}
 use Rattle.std.proofs.lemmas.Bool.Decides.{nat_tests}
 use Rattle.std.proofs.lemmas.List.{append-nil, length-append, length-drop, drop_at, drop-append-le}
 use Rattle.std.proofs.lemmas.List.Folds.{list_all-append}
-use Rattle.usp_uri.specs.declared.fault.TheConstants.{MAX_LEN}
+use Rattle.usp_uri.specs.declared.limits.TheConstants.{MAX_LEN}
 use Rattle.usp_uri.specs.Letters.{is_colon, is_hash, ends_authority, ends_path, is_unreserved, is_sub_delim, is_one_of, is_literal}
 use Rattle.usp_uri.specs.Delimited.{with_mark}
 use Rattle.usp_uri.specs.Components.{Components, components_of, text_of, authority_of, target_of, query_in}

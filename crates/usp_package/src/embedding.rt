@@ -5,7 +5,7 @@ ghost use Rattle.std.specs.List.{list_all};
 ghost use Rattle.std.specs.Option.{option_copied};
 ghost use Rattle.usp_uri.specs.Components.{query_in};
 ghost use Rattle.usp_uri.specs.Faults.{normal_of};
-ghost use Rattle.usp_uri.specs.declared.fault.TheConstants.{MAX_LEN};
+ghost use Rattle.usp_uri.specs.declared.limits.TheConstants.{MAX_LEN};
 ghost use Rattle.usp_package.specs.Package.{embedded, is_run_byte, package_of, nothing, carried};
 
 use crate::name::AttrName;

@@ -1,7 +1,7 @@
 //! What is asked.
 ghost use Rattle.std.specs.Prelude.{◌≡◌, ◌<◌};
 ghost use Rattle.std.specs.Option.{option_copied};
-ghost use Rattle.usp_base.specs.declared.clock.TheConstants.{MOMENT_BOUND};
+ghost use Rattle.usp_base.specs.declared.limits.TheConstants.{MOMENT_BOUND};
 
 use std::marker::Model;
 
@@ -16,7 +16,7 @@ pub struct Ask<'a> {
 impl<'a> Model for Ask<'a> {
     ghost use Rattle.std.specs.Prelude.{◌<◌};
     ghost use Rattle.std.specs.Option.{option_copied};
-    ghost use Rattle.usp_base.specs.declared.clock.TheConstants.{MOMENT_BOUND};
+    ghost use Rattle.usp_base.specs.declared.limits.TheConstants.{MOMENT_BOUND};
     ghost use Rattle.usp_rules.specs.Asks.{AskValue};
 
     ghost Value = { AskValue };

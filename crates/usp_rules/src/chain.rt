@@ -1,7 +1,7 @@
 //! The first rule that a request breaks.
 ghost use Rattle.std.specs.Prelude.{◌≡◌, ◌↔◌, ◌<◌, ◌++◌, List, ℕ, length, IsTrue, None, Ok, Some, IfOk};
 ghost use Rattle.std.specs.Result.{result_ok};
-ghost use Rattle.usp_base.specs.declared.clock.TheConstants.{MOMENT_BOUND};
+ghost use Rattle.usp_base.specs.declared.limits.TheConstants.{MOMENT_BOUND};
 ghost use Rattle.usp_jws.specs.Compact.{IsToken};
 ghost use Rattle.usp_jws.specs.Parts.{text_of};
 ghost use Rattle.usp_package.specs.Package.{bad, carried, nothing};

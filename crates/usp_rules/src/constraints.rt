@@ -3,7 +3,7 @@ ghost use Rattle.std.specs.Prelude.{◌≡◌, ◌<◌, ◌↔◌, IsTrue, IfOk,
 ghost use Rattle.std.specs.List.{list_any};
 ghost use Rattle.std.specs.Option.{option_copied, option_map_or};
 ghost use Rattle.std.specs.Str.{bytes_eq};
-ghost use Rattle.usp_base.specs.declared.clock.TheConstants.{MOMENT_BOUND};
+ghost use Rattle.usp_base.specs.declared.limits.TheConstants.{MOMENT_BOUND};
 ghost use Rattle.usp_claims.specs.Table.{claim, is_audience};
 ghost use Rattle.usp_rules.specs.Constraints.{IsContained, is_begun, is_critical_met, is_for, is_issued, is_plain, is_renewable, is_unexpired, is_version_1, path_of};
 ghost use Rattle.usp_rules.specs.Rules.{IsFirst, Wants, constraints};

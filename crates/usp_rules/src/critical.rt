@@ -3,7 +3,7 @@ ghost use Rattle.std.specs.Prelude.{◌≡◌, ◌<◌, ◌==◌, IfOk, count_by
 ghost use Rattle.std.specs.List.{slice_split};
 ghost use Rattle.std.specs.Option.{option_copied, unwrap_or};
 ghost use Rattle.usp_base.specs.Blanks.{trim_blanks};
-ghost use Rattle.usp_base.specs.declared.clock.TheConstants.{MOMENT_BOUND};
+ghost use Rattle.usp_base.specs.declared.limits.TheConstants.{MOMENT_BOUND};
 ghost use Rattle.usp_claims.specs.Table.{claim};
 ghost use Rattle.usp_ext.specs.Listed.{means_of};
 ghost use Rattle.usp_rules.specs.Critical.{are_understood, comma, is_standard, is_understood, names_in, passes_test, stands_once};

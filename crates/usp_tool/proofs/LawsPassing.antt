@@ -44,7 +44,7 @@ use Rattle.usp_tool.specs.Sign.Line.{SignsLine, claims_for, is_open, payload_for
 use Rattle.usp_uri.proofs.NormalLaws.{normal_again}
 use Rattle.usp_uri.specs.Components.{query_in}
 use Rattle.usp_uri.specs.Faults.{normal_of}
-use Rattle.usp_uri.specs.declared.fault.TheConstants.{MAX_LEN}
+use Rattle.usp_uri.specs.declared.limits.TheConstants.{MAX_LEN}
 
 -- ---- the claims that are sealed
 

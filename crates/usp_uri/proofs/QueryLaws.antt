@@ -2,7 +2,7 @@
 use Rattle.std.proofs.Common.{◌≡◌, ℕ, ◌≤◌, true, eqb, ◌&&◌, ◌||◌, List, [], ◌∷◌, ◌++◌, length, Some, None, Ok, refl, sym, ap, subst, ◌∙◌, append_assoc, arith}
 use Rattle.std.specs.Prelude.{codes, IfSome, IsTrue, option_map}
 use Rattle.std.specs.List.{list_all}
-use Rattle.usp_uri.specs.declared.fault.TheConstants.{MAX_LEN}
+use Rattle.usp_uri.specs.declared.limits.TheConstants.{MAX_LEN}
 use Rattle.usp_uri.specs.Letters.{is_literal}
 use Rattle.usp_uri.specs.Delimited.{with_mark}
 use Rattle.usp_uri.specs.Components.{Components, components_of, text_of, authority_of, target_of, query_in}

@@ -6,7 +6,7 @@ use Rattle.std.specs.Str.Parse.{digits_value}
 use Rattle.std.specs.Char.{is_ascii_hexdigit, is_ascii_digit}
 use Rattle.usp_uri.specs.declared.fault.UriFault.{UriFault}
 use Rattle.usp_uri.specs.declared.fault.UriFault.TheVariants as fault
-use Rattle.usp_uri.specs.declared.fault.TheConstants.{MAX_LEN}
+use Rattle.usp_uri.specs.declared.limits.TheConstants.{MAX_LEN}
 use Rattle.usp_uri.specs.Letters.{is_host_byte, is_literal, is_hash}
 use Rattle.usp_uri.specs.Delimited.{first_outside}
 use Rattle.usp_uri.specs.Components.{components_of, text_of, authority_start, authority_in, host_in, port_in, after_authority}

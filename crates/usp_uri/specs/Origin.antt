@@ -2,7 +2,7 @@
 use Rattle.std.specs.Prelude.{◌≡◌, ℕ, Bool, List, [], ◌∷◌, ◌++◌, length, Option, Some, None, Result, Ok, Err, codes, nat_lt, if◌then◌else◌, not}
 use Rattle.usp_uri.specs.declared.fault.UriFault.{UriFault}
 use Rattle.usp_uri.specs.declared.fault.UriFault.TheVariants as fault
-use Rattle.usp_uri.specs.declared.fault.TheConstants.{MAX_LEN}
+use Rattle.usp_uri.specs.declared.limits.TheConstants.{MAX_LEN}
 use Rattle.usp_uri.specs.Letters.{is_one_of, is_slash}
 use Rattle.usp_uri.specs.Delimited.{first_outside}
 use Rattle.usp_uri.specs.Components.{scheme_in, authority_in, after_authority, authority_start, after_scheme}

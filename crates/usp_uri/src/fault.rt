@@ -3,12 +3,10 @@
 ghost use Rattle.std.specs.Prelude.{◌≡◌, ◌↔◌, true};
 ghost use Rattle.usp_uri.specs.declared.fault.UriFault.TheVariants as fault;
 
+use crate::limits::MAX_LEN;
 use std::alloc::AllocError;
 use std::error::Error;
 use std::fmt;
-
-/// The most bytes of a URI, as it is read and in its normal form.
-pub const MAX_LEN: usize = 8192;
 
 /// Why a text is no URI of this product. Each offset is one of that text.
 #[derive(Clone, Copy, Debug, PartialEq, Eq)]

@@ -4,16 +4,11 @@ ghost use Rattle.std.specs.Prelude.{◌≡◌, ◌≤◌, ◌∷◌, ◌++◌, �
 ghost use Rattle.std.specs.List.{list_all};
 ghost use Rattle.std.specs.Str.{byte};
 ghost use Rattle.usp_uri.specs.Components.{query_in};
-ghost use Rattle.usp_uri.specs.declared.fault.TheConstants.{MAX_LEN};
+ghost use Rattle.usp_uri.specs.declared.limits.TheConstants.{MAX_LEN};
 ghost use Rattle.usp_uri.specs.DotSegments.{is_at_slash, RemovesDots};
 ghost use Rattle.usp_uri.specs.Faults.{normal_of};
 ghost use Rattle.usp_uri.specs.Letters.{is_literal};
 ghost use Rattle.usp_uri.specs.Normal.{remove_dot_segments};
-
-/// The number behind the limit's name.
-pub fn limits_are_told()
-    ensures uri { MAX_LEN ≡ 8192 }
-{}
 
 /// The normal form removes the dot segments of a path as the steps of RFC 3986 section 5.2.4 do.
 pub fn removes_dot_segments_by_the_standard()

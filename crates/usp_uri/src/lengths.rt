@@ -9,10 +9,10 @@ ghost use Rattle.usp_uri.specs.Components.{text_of};
 ghost use Rattle.usp_uri.specs.Delimited.{with_mark};
 ghost use Rattle.usp_uri.specs.DotSegments.{is_at_slash};
 ghost use Rattle.usp_uri.specs.Normal.{kept_port, normal_components, normal_escape, normal_escapes};
-ghost use Rattle.usp_uri.specs.declared.fault.TheConstants.{MAX_LEN};
+ghost use Rattle.usp_uri.specs.declared.limits.TheConstants.{MAX_LEN};
 
 use crate::component_slices::ComponentSlices;
-use crate::fault::MAX_LEN;
+use crate::limits::MAX_LEN;
 use crate::writing::{own_port, unreserved_byte};
 
 /// How many bytes an escape has in the normal form.

@@ -20,18 +20,20 @@ mod fault;
 mod laws;
 mod lengths;
 mod letters;
+mod limits;
 mod reading;
 mod segments;
 mod uri;
 mod writing;
 
 pub use delimited::{cut_at_hash, cut_at_slash, cut_authority, cut_path};
-pub use fault::{MAX_LEN, NoMemory, UriFault};
+pub use fault::{NoMemory, UriFault};
 pub use laws::{
-    a_longer_query_stays_normal, dot_segments_are_removed_in_one_way, limits_are_told,
+    a_longer_query_stays_normal, dot_segments_are_removed_in_one_way,
     removes_dot_segments_by_the_standard,
 };
 pub use letters::{is_gen_delim, is_sub_delim};
+pub use limits::{MAX_LEN, limits_are_told};
 pub use uri::{Place, Uri, check_uri, moved, read_uri, request_uri};
 
 #[cfg(test)]

@@ -11,7 +11,8 @@ ghost use Rattle.usp_uri.specs.Origin.{is_no_path_byte};
 use crate::checks::{has_at_sign, host_fault, port_fault, rest_fault};
 use crate::component_slices::ComponentSlices;
 use crate::delimited::{cut_at_colon, cut_at_hash, cut_authority, cut_path};
-use crate::fault::{MAX_LEN, UriFault};
+use crate::fault::UriFault;
+use crate::limits::MAX_LEN;
 
 /// Whether the text begins with the name, in any case.
 #[tactic(auto, using(crate::proofs::SchemeLemmas::shorter))]

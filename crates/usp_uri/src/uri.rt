@@ -10,12 +10,13 @@ ghost use Rattle.usp_uri.specs.Faults.{normal_of};
 ghost use Rattle.usp_uri.specs.Grammar.{Spells};
 ghost use Rattle.usp_uri.specs.Answers.{Gives, Refuses};
 ghost use Rattle.usp_uri.specs.Segments.{segments_in};
-ghost use Rattle.usp_uri.specs.declared.fault.TheConstants.{MAX_LEN};
+ghost use Rattle.usp_uri.specs.declared.limits.TheConstants.{MAX_LEN};
 ghost use Rattle.usp_uri.specs.Origin.{IsNormalOrigin, origin_text, origin_of, moved_of, request_text};
 
 use crate::component_slices::ComponentSlices;
 use crate::delimited::cut_at_colon;
-use crate::fault::{MAX_LEN, NoMemory, UriFault};
+use crate::fault::{NoMemory, UriFault};
+use crate::limits::MAX_LEN;
 use crate::lengths::outgrows;
 use crate::reading::{cut_normal, path_start, read, split_normal};
 use crate::segments::count_segments;

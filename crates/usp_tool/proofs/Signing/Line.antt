@@ -20,7 +20,7 @@ use Rattle.usp_rules.proofs.Segments.{length-segment}
 use Rattle.usp_rules.specs.Segment.{segment_of}
 use Rattle.usp_rules.specs.Tokens.{SpellsClaims}
 use Rattle.usp_uri.specs.Faults.{normal_of}
-use Rattle.usp_uri.specs.declared.fault.TheConstants.{MAX_LEN}
+use Rattle.usp_uri.specs.declared.limits.TheConstants.{MAX_LEN}
 use Rattle.usp_json.proofs.FaultLaws.{reads_once}
 use Rattle.usp_json.specs.Spells.{given}
 use Rattle.usp_tool.specs.Check.Line.{space}

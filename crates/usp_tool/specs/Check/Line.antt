@@ -4,7 +4,7 @@ use Rattle.std.specs.List.{slice_split}
 use Rattle.std.specs.Option.{option_map}
 use Rattle.usp_base.specs.Numbers.{number_of}
 use Rattle.usp_rules.specs.Asks.{AskValue}
-use Rattle.usp_base.specs.declared.clock.TheConstants.{MOMENT_BOUND}
+use Rattle.usp_base.specs.declared.limits.TheConstants.{MOMENT_BOUND}
 
 abbrev pub space : ℕ
 space = 32

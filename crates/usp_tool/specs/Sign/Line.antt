@@ -17,7 +17,7 @@ use Rattle.usp_rules.specs.Tokens.{SpellsClaims}
 use Rattle.usp_tool.specs.Check.Line.{space}
 use Rattle.usp_uri.specs.Components.{query_in}
 use Rattle.usp_uri.specs.Faults.{normal_of}
-use Rattle.usp_uri.specs.declared.fault.TheConstants.{MAX_LEN}
+use Rattle.usp_uri.specs.declared.limits.TheConstants.{MAX_LEN}
 
 -- the container is `hash:` alone
 abbrev pub is_open : Members → Bool

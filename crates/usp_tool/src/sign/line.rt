@@ -3,7 +3,7 @@ ghost use Rattle.std.specs.Prelude.{◌≡◌, ◌↔◌, ◌<◌, ◌≤◌, Li
 ghost use Rattle.usp_claims.specs.Table.{IsClaimSet};
 ghost use Rattle.usp_claims.specs.declared.limits.TheConstants.{MAX_PAYLOAD};
 ghost use Rattle.usp_jws.specs.Sealed.{sealed};
-ghost use Rattle.usp_uri.specs.declared.fault.TheConstants.{MAX_LEN};
+ghost use Rattle.usp_uri.specs.declared.limits.TheConstants.{MAX_LEN};
 ghost use Rattle.usp_json.specs.Canon.{canon_members};
 ghost use Rattle.usp_package.specs.Package.{nothing, package_of};
 ghost use Rattle.usp_tool.specs.Sign.Line.{SignsLine, claims_for, is_open, payload_for, signed_uri};
