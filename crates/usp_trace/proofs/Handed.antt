@@ -11,8 +11,8 @@ use Rattle.std.proofs.lemmas.Slice.Eq.{bytes_eq-Decides}
 use Rattle.usp_claims.proofs.Rows.{tells}
 use Rattle.usp_claims.specs.declared.limits.TheConstants.{MAX_NUMBER, MAX_PERIOD}
 use Rattle.usp_claims.specs.Table.{claim, is_audience, period_claim, text_claim, whole_in}
-use Rattle.usp_trace.proofs.Once.{renewed_once, resigned_once}
-use Rattle.usp_trace.proofs.Replacing.{IsSentOn, period_below, renew_says, renewed_end, renewed_exp, renewed_other, resigns_says}
+use Rattle.usp_issue.proofs.Once.{renewed_once, resigned_once}
+use Rattle.usp_issue.proofs.Replacing.{IsSentOn, period_below, renew_says, renewed_end, renewed_exp, renewed_other, resigns_says}
 use Rattle.usp_issue.specs.Renewals.{for_period}
 use Rattle.usp_issue.specs.Resignings.{target_of}
 use Rattle.usp_issue.specs.Routes.{RouteValue}

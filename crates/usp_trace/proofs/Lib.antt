@@ -2,8 +2,6 @@ pub mod Ordered
 pub mod IndexLemmas
 pub mod Origins
 pub mod Chained
-pub mod Replacing
-pub mod Once
 pub mod Handed
 pub mod Longer
 pub mod Said

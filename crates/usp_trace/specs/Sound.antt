@@ -1,5 +1,6 @@
 -- Ledgers whose tokens were issued as they must be.
-use Rattle.std.specs.Prelude.{◌≡◌, ℕ, ◌<◌, ◌^◌, List, Some, slice_get}
+use Rattle.std.specs.Prelude.{◌≡◌, ℕ, ◌<◌, List, Some, slice_get}
+use Rattle.usp_base.specs.declared.limits.TheConstants.{MOMENT_BOUND}
 use Rattle.usp_issue.specs.Renewals.{IsRenewed}
 use Rattle.usp_issue.specs.Resignings.{IsResigned}
 use Rattle.usp_issue.specs.Routes.{RouteValue}
@@ -18,14 +19,14 @@ use Rattle.usp_trace.specs.Issues.{Use, use_at}
 abbrev pub presented_by : Use → (token : List ℕ) → Presented
 presented_by asked token = record { token = token; content = Some asked.uri; moment = asked.moment }
 
--- The parent's token has these claims, and is valid at the named site for the named URI and moment, which is below
--- 2^52 as that of each ask.
+-- The parent's token has these claims, and is valid at the named site for the named URI and moment, which a clock
+-- can tell.
 pub record IsUsed (sites : List SiteValue) (ledger : List Issue) (place parent : ℕ) (asked : Use) (site : SiteValue)
     (members : Members) : Type 0 where
   pub token : List ℕ
   pub from : IsParent ledger place parent token
   pub named : slice_get sites asked.edge ≡ Some site
-  pub early : asked.moment < 2 ^ 52
+  pub early : asked.moment < MOMENT_BOUND
   pub valid : Valid site.profile (presented_by asked token)
   pub claims : CarriesClaims token members
 
