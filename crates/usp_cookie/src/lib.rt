@@ -2,11 +2,12 @@
 //!
 //! ```
 //! let name = AttrName::new(b"token")?;
-//! let token = token_of(&name, b"a=b; token=e.y.J; c=d"); // Some(b"e.y.J")
+//! let shown = token_of(&name, b"a=b; token=e.y.J; c=d"); // Some(b"e.y.J")
 //!
 //! let uri = read_uri(alloc, b"http://h/v/1/s.ts")?;
 //! let path = cookie_path(alloc, &uri, 2)?; // b"/v/1"
-//! let cookie = set_cookie(alloc, &name, &token, &path)?; // token=e.y.J; Path=/v/1
+//! let renewed = Token::of(alloc, &split(b"e.y.J")?)?;
+//! let cookie = set_cookie(alloc, &name, &renewed, &path)?; // token=e.y.J; Path=/v/1
 //!
 //! let mut jar = Jar::empty(alloc);
 //! jar.store(b"h", b"/v/1/s.ts", &cookie)?;

@@ -1,4 +1,4 @@
-//! Reading a text from left to right, with its first fault.
+//! Reading a text into its components, with its first fault.
 
 ghost use Rattle.std.specs.Prelude.{◌≡◌, ◌≤◌, ◌+◌, length, None, Some, IfSome, IfNone, MatchResult, Ok, ◌<◌, ◌^◌};
 ghost use Rattle.usp_uri.specs.Components.{components_of, scheme_in, after_scheme, authority_start, authority_in, after_authority};

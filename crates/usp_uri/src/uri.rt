@@ -107,9 +107,9 @@ fn read_text(alloc: Global, text: &[u8]) -> Result<Vec<u8>, UriFault>
 ///
 /// # Errors
 ///
-/// The first fault of the text from left to right: `TooLong`, `Scheme`, `Userinfo`, the host, the
-/// port, then the first byte of the rest that may not stand there. `TooLong` once more at the end,
-/// where the normal form passes `MAX_LEN` by the '/' of an empty path.
+/// The first fault of the text in this order: `TooLong`, `Scheme`, `Userinfo`, the host, the port,
+/// then the first byte of the rest that may not stand there. `TooLong` once more at the end, where
+/// the normal form passes `MAX_LEN` by the '/' of an empty path.
 pub fn read_uri(alloc: Global, text: &[u8]) -> Result<Uri, UriFault>
     // What is read is spelled by the grammar, and is the normal form of its components.
     ensures found { IfOk result (λ uri. (p : Components) × Spells p text.now × (uri ≡ text_of (normal_components p))) }
