@@ -4,6 +4,7 @@ ghost use Rattle.std.specs.List.{prefix_len};
 ghost use Rattle.std.specs.Option.{option_map};
 ghost use Rattle.usp_base.specs.Numbers.{is_digit};
 ghost use Rattle.usp_ere.specs.CountText.{value_of, is_number, number_at, counts_at};
+
 use usp_base::is_digit;
 
 /// How many digits stand at the front of the text.

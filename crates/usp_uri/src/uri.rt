@@ -16,8 +16,8 @@ ghost use Rattle.usp_uri.specs.Origin.{IsNormalOrigin, origin_text, origin_of, m
 use crate::component_slices::ComponentSlices;
 use crate::delimited::cut_at_colon;
 use crate::fault::{NoMemory, UriFault};
-use crate::limits::MAX_LEN;
 use crate::lengths::outgrows;
+use crate::limits::MAX_LEN;
 use crate::reading::{cut_normal, path_start, read, split_normal};
 use crate::segments::count_segments;
 use crate::writing::normal;
