@@ -1,0 +1,13 @@
+pub mod Steps
+pub mod Bounds
+pub mod Routing
+pub mod Judging
+pub mod Doing
+pub mod Going
+pub mod Counting
+pub mod Answering
+pub mod Requested
+pub mod Honesty
+pub mod Showing
+pub mod OneWork
+pub mod OneSession

@@ -1,0 +1,13 @@
+pub mod Calls
+pub mod Gains
+pub mod TableLaws
+pub mod Asks
+pub mod Replies
+pub mod Outcomes
+pub mod Work
+pub mod Session
+pub mod Halts
+pub mod Serving
+pub mod Requests
+pub mod Honest
+pub mod Once
