@@ -3,7 +3,7 @@ ghost use Rattle.std.specs.Prelude.{◌≡◌, IfOk};
 ghost use Rattle.usp_http.specs.Replies.{IsStatus};
 
 use crate::{
-    Field, HeadReader, HeardFault, MAX_HEAD, Method, Next, NoMemory, Reply, read_digits,
+    Field, HeadFault, HeadReader, HeardFault, MAX_HEAD, Method, Next, NoMemory, Reply, read_digits,
     read_reply, reply_bytes,
 };
 use std::alloc::{AllocError, Global};
@@ -240,6 +240,58 @@ fn what_is_no_head_has_its_fault_and_keeps_it(rt: HostRuntime) -> Result<(), Fai
     Ok(())
 }
 
+#[test]
+fn an_empty_line_behind_the_last_head_is_cut_short(rt: HostRuntime) -> Result<(), Fail> {
+    let alloc = rt.alloc();
+    for most in [1, 7, 100] {
+        let bytes = b"GET / HTTP/1.1\r\n\r\n\r\n".to_vec(alloc)?;
+        let mut source = ListedSource::new(bytes, most, Vec::new(alloc));
+        let mut reader = HeadReader::new(alloc)?;
+        assert!(rt; matches!(reader.next_head(&mut source), Next::Found(_)));
+        assert!(rt; matches!(reader.next_head(&mut source), Next::CutShort));
+    }
+    Ok(())
+}
+
+#[test]
+fn faults_say_what_to_mend(rt: HostRuntime) -> Result<(), Fail> {
+    let alloc = rt.alloc();
+    for (fault, expected) in [
+        (
+            HeadFault::CutShort,
+            "the connection ended within a head: send it whole",
+        ),
+        (
+            HeadFault::BadHead,
+            "not the head of an HTTP/1.1 request: mend its first line and its fields",
+        ),
+        (
+            HeadFault::HeadTooLong,
+            "the head is longer than 16,384 bytes: send fewer or shorter fields",
+        ),
+        (
+            HeadFault::ManyHeaders,
+            "the head has more than 64 fields: send fewer",
+        ),
+    ] {
+        assert_eq!(rt; format!(in alloc; "{fault}")?.as_str(), expected);
+    }
+    for (fault, expected) in [
+        (
+            HeardFault::BadReply,
+            "no reply of HTTP/1 with one Content-Length and a body of that length: look at the server",
+        ),
+        (HeardFault::NoMemory, "out of memory: try again with more"),
+    ] {
+        assert_eq!(rt; format!(in alloc; "{fault}")?.as_str(), expected);
+    }
+    assert_eq!(rt;
+        format!(in alloc; "{NoMemory}")?.as_str(),
+        "out of memory: try again with more"
+    );
+    Ok(())
+}
+
 // A request with so many fields, without its last empty line.
 fn with_fields(alloc: Global, count: usize) -> Result<Vec<u8>, AllocError> {
     let mut bytes = b"GET / HTTP/1.1\r\n".to_vec(alloc)?;
@@ -299,10 +351,13 @@ fn a_head_has_16384_bytes_and_no_more(rt: HostRuntime) -> Result<(), Fail> {
             );
         }
     }
-    let mut bytes = with_length(alloc, 16384)?;
-    let _ = bytes.pop();
-    let (open, _) = first_of(alloc, &bytes, 5000)?;
-    assert!(rt; matches!(open, Next::CutShort));
+    // Without its last byte the longest head is open, and one byte more leaves no room for an end.
+    for (length, expected) in [(16384, "CutShort"), (16385, "HeadTooLong")] {
+        let mut bytes = with_length(alloc, length)?;
+        let _ = bytes.pop();
+        let (open, _) = first_of(alloc, &bytes, 5000)?;
+        assert_eq!(rt; format!(in alloc; "{open:?}")?.as_str(), expected);
+    }
     Ok(())
 }
 

@@ -461,3 +461,55 @@ fn a_map_gives_the_first_address_of_an_authority(rt: HostRuntime) -> Result<(), 
     }
     Ok(())
 }
+
+#[test]
+fn faults_say_what_to_mend(rt: HostRuntime) -> Result<(), Fail> {
+    let alloc = rt.alloc();
+    for (fault, expected) in [
+        (
+            ListFault::TooLong,
+            "the playlist has more than 4194304 bytes: cut it",
+        ),
+        (
+            ListFault::NotUtf8 { at: 3 },
+            "the bytes at 3 are not UTF-8: encode them",
+        ),
+        (
+            ListFault::NoHeader,
+            "line 1 is not #EXTM3U: this may be no playlist",
+        ),
+        (
+            ListFault::BadTarget { line: 2 },
+            "line 2: give one whole target duration below 2^32",
+        ),
+        (
+            ListFault::BadInf { line: 3 },
+            "line 3: give #EXTINF: a duration in digits, and a URI before the next one",
+        ),
+        (
+            ListFault::NoInf { line: 4 },
+            "line 4: put #EXTINF: before the URI",
+        ),
+        (
+            ListFault::ByteRange { line: 5 },
+            "line 5: segments that are byte ranges are not played",
+        ),
+        (
+            ListFault::TooMany { line: 6 },
+            "line 6: the playlist has more than 10000 segments: cut it",
+        ),
+        (
+            ListFault::NoTarget,
+            "add #EXT-X-TARGETDURATION: and a number",
+        ),
+        (ListFault::NoMemory, "out of memory: try again with more"),
+    ] {
+        assert_eq!(rt; format!(in alloc; "{fault}")?.as_str(), expected);
+    }
+    let line = MapFault::Line { line: 7 };
+    assert_eq!(rt;
+        format!(in alloc; "{line}")?.as_str(),
+        "line 7: write an authority, one space and an address, as `h:80 127.0.0.1:80`"
+    );
+    Ok(())
+}

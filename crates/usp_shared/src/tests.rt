@@ -1,7 +1,7 @@
 //! Calls of a shared table, with their answers worked out by hand.
 ghost use Rattle.std.specs.Prelude.{◌≡◌, ◌≤◌, IfOk};
 
-use crate::{NonceAsk, Seat, SharedNonces};
+use crate::{NoMemory, NonceAsk, Seat, SharedNonces};
 use std::alloc::Global;
 use std::process::Abort;
 use std::sync::Wait;
@@ -238,6 +238,32 @@ fn two_threads_make_thousands_of_calls(rt: HostRuntime) -> Result<(), Fail> {
         &|_, caller| { caller.ask_often(&rt, alloc, 3_000) },
     );
     assert_eq!(rt; each_place_was_told_once(&rt, alloc, &callers)?, 6_000);
+    Ok(())
+}
+
+// More threads than processors: some sleep, and are woken.
+#[test]
+fn eight_threads_wake_each_other(rt: HostRuntime) -> Result<(), Fail> {
+    let alloc = rt.alloc();
+    let (nonces, mut seat) = share(alloc, 8, 1_600)?;
+    let mut callers = Vec::with_capacity(alloc, 8)?;
+    for _ in 0..7 {
+        assert!(rt; seat.left() >= 200);
+        let given = nonces.split(&mut seat, 200)?;
+        callers.push(Caller::new(alloc, &nonces, given))?;
+    }
+    callers.push(Caller::new(alloc, &nonces, seat))?;
+    thread::for_each_mut(
+        &rt,
+        callers.as_mut_slice(),
+        8,
+        &|_, caller| { caller.ask_often(&rt, alloc, 200) },
+    );
+    assert_eq!(rt; each_place_was_told_once(&rt, alloc, &callers)?, 1_600);
+    assert_eq!(rt;
+        NoMemory.to_string(alloc)?.as_str(),
+        "there is no memory left: give the program more"
+    );
     Ok(())
 }
 
