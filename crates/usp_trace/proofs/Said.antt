@@ -7,13 +7,14 @@ use Rattle.usp_issue.specs.Routes.{RouteValue}
 use Rattle.usp_issue.specs.Sites.{SiteValue}
 use Rattle.usp_json.specs.declared.value.Json.{Json}
 use Rattle.usp_json.specs.declared.value.Members.{Members}
+use Rattle.usp_jws.specs.Letters.{has_identity}
 use Rattle.usp_rules.proofs.Single.{one_claims}
 use Rattle.usp_rules.specs.Constraints.{IsContained, is_begun, is_for, is_unexpired}
 use Rattle.usp_rules.specs.Tokens.{CarriesClaims}
 use Rattle.usp_trace.specs.declared.issue.Issue.{Issue}
 use Rattle.usp_trace.specs.declared.issue.Issue.TheVariants.{Grant, Renewed, Resigned}
 use Rattle.usp_trace.specs.Chains.{Chain, granted, linked, IsChain}
-use Rattle.usp_trace.specs.Grants.{GrantMet, HasIdentity, IsForEdge, IsInTime, IsUseMet, Origin, last_redirection, last_renewal, redirection_behind, redirection_by, renewal_behind, renewal_by, route_at}
+use Rattle.usp_trace.specs.Grants.{GrantMet, IsForEdge, IsInTime, IsUseMet, Origin, last_redirection, last_renewal, redirection_behind, redirection_by, renewal_behind, renewal_by, route_at}
 use Rattle.usp_trace.specs.Issues.{Use, parent_of, use_at, use_of}
 use Rattle.usp_trace.specs.Laws.{AreRenewedAt, AreSentBy, HasAudienceOfRoute, IsDirect, IsUnrenewed, IsUseBehind, IsWithinPeriod, WasRenewed, WasResigned, WasUsed}
 use Rattle.usp_trace.specs.Sound.{IsDue, IsRedirection, IsRenewal, IsUsed, Sound}
@@ -187,7 +188,7 @@ route_found None route sent e = cc
 route_found (Some from) route sent e = (from, refl, e)
 
 audience_of_route : (sites : List SiteValue) (site : SiteValue) (edge route : ℕ) (aud : Option Json) → is_some aud ≡ true
-    → IfSome aud (λ aud. (sent : RouteValue) × (route_at sites (edge, route) ≡ Some sent) × HasIdentity site sent.audience) → HasAudienceOfRoute sites edge route site
+    → IfSome aud (λ aud. (sent : RouteValue) × (route_at sites (edge, route) ≡ Some sent) × (has_identity site.profile.audience sent.audience ≡ true)) → HasAudienceOfRoute sites edge route site
 audience_of_route sites site edge route None there h = cc
 audience_of_route sites site edge route (Some aud) there h =
     let r = route_found (slice_get sites edge) route h.0 h.1 in

@@ -9,13 +9,13 @@ use Rattle.usp_issue.specs.Sites.{SiteValue}
 use Rattle.usp_json.specs.Canon.{canon_members}
 use Rattle.usp_json.specs.declared.value.Members.{Members}
 use Rattle.usp_jws.specs.Keys.{KeyValue}
+use Rattle.usp_jws.specs.Letters.{has_identity}
 use Rattle.usp_jws.specs.Sealed.{sealed}
 use Rattle.usp_rules.specs.Rules.{Valid}
 use Rattle.usp_rules.specs.Tokens.{CarriesClaims}
 use Rattle.usp_trace.specs.declared.issue.Issue.{Issue}
 use Rattle.usp_trace.specs.declared.issue.Issue.TheVariants.{Grant, Renewed, Resigned}
 use Rattle.usp_trace.specs.Chains.{token_at}
-use Rattle.usp_trace.specs.Grants.{HasIdentity}
 use Rattle.usp_trace.specs.Issues.{Use, use_of}
 use Rattle.usp_trace.specs.Sound.{presented_by}
 
@@ -106,7 +106,7 @@ AreRenewedAt moment links =
 abbrev pub HasAudienceOfRoute : List SiteValue → (edge route : ℕ) → SiteValue → Type 0
 HasAudienceOfRoute sites edge route site =
     (from : SiteValue) × (sent : RouteValue) × (slice_get sites edge ≡ Some from)
-    × (slice_get from.routes route ≡ Some sent) × HasIdentity site sent.audience
+    × (slice_get from.routes route ≡ Some sent) × (has_identity site.profile.audience sent.audience ≡ true)
 
 -- The moment is within a period of `cdniets` from that one.
 abbrev pub IsWithinPeriod : (grant : Members) → (start moment : ℕ) → Type 0
