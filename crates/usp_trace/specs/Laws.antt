@@ -16,7 +16,7 @@ use Rattle.usp_rules.specs.Tokens.{CarriesClaims}
 use Rattle.usp_trace.specs.declared.issue.Issue.{Issue}
 use Rattle.usp_trace.specs.declared.issue.Issue.TheVariants.{Grant, Renewed, Resigned}
 use Rattle.usp_trace.specs.Chains.{token_at}
-use Rattle.usp_trace.specs.Issues.{Use, use_of}
+use Rattle.usp_trace.specs.Issues.{Use}
 use Rattle.usp_trace.specs.Sound.{presented_by}
 
 -- ---- what soundness says of an issue that is no grant
@@ -67,11 +67,15 @@ pub record WasResigned (sites : List SiteValue) (ledger : List Issue) (parent ed
 
 -- ---- the uses of a chain
 
--- A use that one of the links names, behind the links before it, or the last one, behind all.
+-- A use that one of the links names, a renewal or a redirection, behind the links before it, or the last one, behind
+-- all.
 abbrev pub IsUseBehind : (links : List Issue) → (asked : Use) → (before : List Issue) → (used : Use) → Type 0
 IsUseBehind links asked before used =
-    ((link : Issue) × (after : List Issue) × (links ≡ before ++ link ∷ after) × (use_of link ≡ Some used))
-    ⊎ ((before ≡ links) × (used ≡ asked))
+    ((parent : ℕ) × (token : List ℕ) × (after : List Issue)
+    × (links ≡ before ++ Renewed parent used.edge used.uri used.moment token ∷ after))
+    ⊎ (((parent : ℕ) × (route : ℕ) × (token : List ℕ) × (after : List Issue)
+    × (links ≡ before ++ Resigned parent used.edge used.uri used.moment route token ∷ after))
+    ⊎ ((before ≡ links) × (used ≡ asked)))
 
 abbrev pub is_redirection : Issue → Bool
 is_redirection (Grant token) = false

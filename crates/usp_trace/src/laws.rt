@@ -11,7 +11,7 @@ ghost use Rattle.usp_rules.specs.Tokens.{CarriesClaims};
 ghost use Rattle.usp_trace.specs.Chains.{Chain, IsChain, IsIssued, IsOrdered, first_place, token_at};
 ghost use Rattle.usp_trace.specs.Descent.{Descends};
 ghost use Rattle.usp_trace.specs.Grants.{GrantMet, Origin};
-ghost use Rattle.usp_trace.specs.Issues.{Use, parent_of, use_of};
+ghost use Rattle.usp_trace.specs.Issues.{Use};
 ghost use Rattle.usp_trace.specs.Laws.{AreRenewedAt, AreSentBy, HasAudienceOfRoute, IsDirect, IsUnrenewed, IsUseBehind, IsWithinPeriod, WasRenewed, WasResigned, WasUsed};
 ghost use Rattle.usp_trace.specs.Sound.{IsDue, Sound, presented_by};
 ghost use Rattle.usp_trace.specs.declared.issue.Issue.{Issue};
@@ -55,9 +55,13 @@ pub fn stays_sound()
 
 /// What soundness says of each issue that is no grant: where it comes from, and what it is of its parent.
 pub fn says_what_is_sound()
-    ensures used { (ledger : List Issue) (sites : List SiteValue) (place parent : ℕ) (issue : Issue)
-        (asked : Use) → Sound ledger sites → slice_get ledger place ≡ Some issue
-        → parent_of issue ≡ Some parent → use_of issue ≡ Some asked
+    ensures used_to_renew { (ledger : List Issue) (sites : List SiteValue) (place parent : ℕ)
+        (asked : Use) (token : List ℕ) → Sound ledger sites → slice_get ledger place
+        ≡ Some (Renewed parent asked.edge asked.uri asked.moment token)
+        → WasUsed sites ledger place parent asked }
+    ensures used_to_send { (ledger : List Issue) (sites : List SiteValue) (place parent : ℕ)
+        (asked : Use) (route : ℕ) (token : List ℕ) → Sound ledger sites → slice_get ledger place
+        ≡ Some (Resigned parent asked.edge asked.uri asked.moment route token)
         → WasUsed sites ledger place parent asked }
     ensures renewed { (ledger : List Issue) (sites : List SiteValue) (place parent edge : ℕ)
         (uri : List ℕ) (moment : ℕ) (token : List ℕ) → Sound ledger sites
