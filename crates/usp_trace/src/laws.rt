@@ -1,8 +1,8 @@
 //! Laws of ledgers. Each is a theorem for the crates above.
 
-ghost use Rattle.std.specs.Prelude.{◌≡◌, ◌<◌, List, Option, ℕ, [], ◌∷◌, ◌++◌, Some, codes, length, slice_get, true};
+ghost use Rattle.std.specs.Prelude.{◌≡◌, ◌≢◌, ◌<◌, List, Option, ℕ, [], ◌∷◌, ◌++◌, Some, codes, length, slice_get, true};
 ghost use Rattle.std.specs.Option.{is_some};
-ghost use Rattle.usp_claims.specs.Table.{claim};
+ghost use Rattle.usp_claims.specs.Table.{claim, text_claim};
 ghost use Rattle.usp_issue.specs.Sites.{SiteValue};
 ghost use Rattle.usp_json.specs.declared.value.Members.{Members};
 ghost use Rattle.usp_rules.specs.Constraints.{IsContained, is_begun, is_for, is_unexpired};
@@ -45,6 +45,33 @@ pub fn has_one_chain()
 pub fn has_one_origin()
     ensures { (ledger : List Issue) (place : ℕ) (uri a b : List ℕ)
         → Origin ledger place uri a → Origin ledger place uri b → a ≡ b }
+{}
+
+/// Where a use comes from, one link back: at a grant from the URI itself; at a renewal, and at a redirection whose
+/// container text is its parent's, from the same URI at the parent; at each other redirection from the URI that it
+/// names.
+pub fn follows_the_links()
+    ensures granted { (ledger : List Issue) (place : ℕ) (uri origin token : List ℕ)
+        → slice_get ledger place ≡ Some (Grant token) → Origin ledger place uri origin
+        → origin ≡ uri }
+    ensures renewed { (ledger : List Issue) (place parent edge moment : ℕ)
+        (uri origin named token : List ℕ)
+        → slice_get ledger place ≡ Some (Renewed parent edge named moment token)
+        → Origin ledger place uri origin → Origin ledger parent uri origin }
+    ensures kept { (ledger : List Issue) (place parent edge moment route : ℕ)
+        (uri origin named token used : List ℕ) (before after : Members)
+        → slice_get ledger place ≡ Some (Resigned parent edge named moment route token)
+        → token_at ledger parent ≡ Some used → CarriesClaims used before
+        → CarriesClaims token after
+        → text_claim (codes "cdniuc") before ≡ text_claim (codes "cdniuc") after
+        → Origin ledger place uri origin → Origin ledger parent uri origin }
+    ensures narrowed { (ledger : List Issue) (place parent edge moment route : ℕ)
+        (uri origin named token used : List ℕ) (before after : Members)
+        → slice_get ledger place ≡ Some (Resigned parent edge named moment route token)
+        → token_at ledger parent ≡ Some used → CarriesClaims used before
+        → CarriesClaims token after
+        → text_claim (codes "cdniuc") before ≢ text_claim (codes "cdniuc") after
+        → Origin ledger place uri origin → Origin ledger parent named origin }
 {}
 
 /// A sound ledger stays sound with one more issue that is what it must be at the next place.
