@@ -1,6 +1,6 @@
 //! Laws of ledgers. Each is a theorem for the crates above.
 
-ghost use Rattle.std.specs.Prelude.{◌≡◌, ◌≢◌, ◌<◌, List, Option, ℕ, [], ◌∷◌, ◌++◌, Some, codes, length, slice_get, true};
+ghost use Rattle.std.specs.Prelude.{◌≡◌, ◌≢◌, ◌+◌, ◌<◌, List, Option, ℕ, [], ◌∷◌, ◌++◌, Some, codes, length, slice_get, true};
 ghost use Rattle.std.specs.Option.{is_some};
 ghost use Rattle.usp_claims.specs.Table.{claim, text_claim};
 ghost use Rattle.usp_issue.specs.Sites.{SiteValue};
@@ -11,7 +11,7 @@ ghost use Rattle.usp_rules.specs.Tokens.{CarriesClaims};
 ghost use Rattle.usp_trace.specs.Chains.{Chain, IsChain, IsIssued, IsOrdered, first_place, token_at};
 ghost use Rattle.usp_trace.specs.Descent.{Descends};
 ghost use Rattle.usp_trace.specs.Grants.{GrantMet, Origin};
-ghost use Rattle.usp_trace.specs.Issues.{Use};
+ghost use Rattle.usp_trace.specs.Issues.{Use, parent_of};
 ghost use Rattle.usp_trace.specs.Laws.{AreRenewedAt, AreSentBy, HasAudienceOfRoute, IsDirect, IsUnrenewed, IsUseBehind, IsWithinPeriod, WasRenewed, WasResigned, WasUsed};
 ghost use Rattle.usp_trace.specs.Sound.{IsDue, Sound, presented_by};
 ghost use Rattle.usp_trace.specs.declared.issue.Issue.{Issue};
@@ -39,6 +39,23 @@ pub fn has_one_chain()
     ensures grant { (ledger : List Issue) (place : ℕ) (places : List ℕ)
         → IsChain ledger place places → (first : ℕ) × (token : List ℕ)
         × (slice_get places 0 ≡ Some first) × (slice_get ledger first ≡ Some (Grant token)) }
+{}
+
+/// A chain has one place more than links, and ends at its own place. Link n, counted from 0, is the issue at place
+/// n + 1 of the chain, and its parent is place n of the chain.
+pub fn names_each_link()
+    ensures long { (ledger : List Issue) (place : ℕ) (places token : List ℕ) (links : List Issue)
+        → Chain ledger place places token links → length places ≡ length links + 1 }
+    ensures last { (ledger : List Issue) (place : ℕ) (places token : List ℕ) (links : List Issue)
+        → Chain ledger place places token links → slice_get places (length links) ≡ Some place }
+    ensures link { (ledger : List Issue) (place : ℕ) (places token : List ℕ) (links : List Issue)
+        (number : ℕ) (link : Issue) → Chain ledger place places token links
+        → slice_get links number ≡ Some link → (at : ℕ)
+        × (slice_get places (number + 1) ≡ Some at) × (slice_get ledger at ≡ Some link) }
+    ensures parent { (ledger : List Issue) (place : ℕ) (places token : List ℕ) (links : List Issue)
+        (number : ℕ) (link : Issue) → Chain ledger place places token links
+        → slice_get links number ≡ Some link → (parent : ℕ)
+        × (slice_get places number ≡ Some parent) × (parent_of link ≡ Some parent) }
 {}
 
 /// A use has one origin.

@@ -41,7 +41,7 @@ impl Ledger {
         }
     }
 
-    /// How many issues there are. Whatever is no grant has a parent, as the laws of chains need it.
+    /// How many issues there are. A ledger is ordered, as the laws of its chains ask.
     pub fn len(&self) -> u32
         ensures value { result ≡ length self.now }
         ensures bound { result ≤ MAX_ISSUES }
