@@ -20,6 +20,7 @@ use Rattle.usp_issue.specs.Sites.{SiteValue}
 use Rattle.usp_json.specs.declared.value.Json.{Json}
 use Rattle.usp_json.specs.declared.value.Json.TheVariants.{Num, Str, outs-Str}
 use Rattle.usp_json.specs.declared.value.Members.{Members}
+use Rattle.usp_jws.specs.Letters.{has_identity}
 use Rattle.usp_rules.proofs.Single.{one_claims}
 use Rattle.usp_rules.specs.Constraints.{IsContained, is_begun, is_for, is_unexpired}
 use Rattle.usp_rules.specs.Rules.{Valid}
@@ -29,7 +30,7 @@ use Rattle.usp_trace.specs.declared.issue.Issue.{Issue}
 use Rattle.usp_trace.specs.declared.issue.Issue.TheVariants.{Grant, Renewed, Resigned}
 use Rattle.usp_trace.specs.Chains.{Chain, granted as chain_granted, linked, token_at}
 use Rattle.usp_trace.specs.Descent.{Descends, HasAudienceOf, HasEndOf}
-use Rattle.usp_trace.specs.Grants.{AreUsesMet, Contains, GrantMet, HasIdentity, IsForEdge, IsInTime, IsUseMet, Origin, granted, renewed, kept, narrowed, last_redirection, last_renewal, redirection_behind, redirection_by, renewal_behind, renewal_by, route_at}
+use Rattle.usp_trace.specs.Grants.{AreUsesMet, Contains, GrantMet, IsForEdge, IsInTime, IsUseMet, Origin, granted, renewed, kept, narrowed, last_redirection, last_renewal, redirection_behind, redirection_by, renewal_behind, renewal_by, route_at}
 use Rattle.usp_trace.specs.Issues.{Use, parent_of, token_of, use_at, use_of}
 use Rattle.usp_trace.specs.Sound.{IsDue, IsRedirection, IsRenewal, Sound, presented_by}
 use Rattle.usp_trace.proofs.Chained.{has_chain}
@@ -107,8 +108,18 @@ or_nothing : (b : Bool) → (b || false) ≡ b
 or_nothing true = refl
 or_nothing false = refl
 
-audience_is : (a identity : List ℕ) → is_audience identity (Str a) ≡ bytes_eq a identity
-audience_is a identity = rw (outs-Str a) (or_nothing (bytes_eq a identity))
+-- the order of two texts is nothing to whether they are the same
+same_turned : (a b : List ℕ) → bytes_eq a b ≡ bytes_eq b a
+same_turned a b = elim (tells (bytes_eq a b)) [
+  | inl hit ↦ hit ∙ sym ((bytes_eq-Decides b a).1 (sym ((bytes_eq-Decides a b).0 hit)))
+  | inr miss ↦ elim (tells (bytes_eq b a)) [
+    | inl back ↦ (bytes_eq-Decides a b).1 (sym ((bytes_eq-Decides b a).0 back)) ∙ sym back
+    | inr none ↦ miss ∙ sym none
+  ]
+]
+
+audience_is : (a identity : List ℕ) → is_audience identity (Str a) ≡ bytes_eq identity a
+audience_is a identity = rw (outs-Str a) (or_nothing (bytes_eq a identity)) ∙ same_turned a identity
 
 any_same : (p q : List ℕ → Bool) (xs : List (List ℕ)) → ((x : List ℕ) → p x ≡ q x) → list_any p xs ≡ list_any q xs
 any_same p q [] e = refl
@@ -119,11 +130,11 @@ is_for_this audience o = option_map_or (λ aud. list_any (λ identity. is_audien
 
 sent_met : (sites : List SiteValue) (site : SiteValue) (last : ℕ × ℕ) (own given : Option Json) → is_for_this site.profile.audience own ≡ true
     → MatchOption given (own ≡ None) (λ aud. (sent : RouteValue) × (route_at sites last ≡ Some sent) × (own ≡ Some (Str sent.audience)))
-    → IfSome given (λ aud. (sent : RouteValue) × (route_at sites last ≡ Some sent) × HasIdentity site sent.audience)
+    → IfSome given (λ aud. (sent : RouteValue) × (route_at sites last ≡ Some sent) × (has_identity site.profile.audience sent.audience ≡ true))
 sent_met sites site last own None met has = tt
 sent_met sites site last own (Some aud) met has =
     let here : list_any (λ identity. is_audience identity (Str has.0.audience)) site.profile.audience ≡ true = rw has.2 at met in
-    (has.0, has.1, sym (any_same (λ identity. is_audience identity (Str has.0.audience)) (bytes_eq has.0.audience) site.profile.audience (audience_is has.0.audience)) ∙ here)
+    (has.0, has.1, sym (any_same (λ identity. is_audience identity (Str has.0.audience)) (λ known. bytes_eq known has.0.audience) site.profile.audience (audience_is has.0.audience)) ∙ here)
 
 audience_met : (sites : List SiteValue) (site : SiteValue) (grant m : Members) (o : Option (ℕ × ℕ)) → is_for site.profile.audience m ≡ true → HasAudienceOf sites grant m o → IsForEdge sites grant site o
 audience_met sites site grant m None met has = sym (ap (λ (x : Option Json). is_for_this site.profile.audience x) has) ∙ met

@@ -7,16 +7,17 @@ use Rattle.usp_issue.specs.Routes.{RouteValue}
 use Rattle.usp_issue.specs.Sites.{SiteValue}
 use Rattle.usp_json.specs.declared.value.Json.{Json}
 use Rattle.usp_json.specs.declared.value.Members.{Members}
+use Rattle.usp_jws.specs.Letters.{has_identity}
 use Rattle.usp_rules.proofs.Single.{one_claims}
 use Rattle.usp_rules.specs.Constraints.{IsContained, is_begun, is_for, is_unexpired}
 use Rattle.usp_rules.specs.Tokens.{CarriesClaims}
 use Rattle.usp_trace.specs.declared.issue.Issue.{Issue}
 use Rattle.usp_trace.specs.declared.issue.Issue.TheVariants.{Grant, Renewed, Resigned}
 use Rattle.usp_trace.specs.Chains.{Chain, granted, linked, IsChain}
-use Rattle.usp_trace.specs.Grants.{GrantMet, HasIdentity, IsForEdge, IsInTime, IsUseMet, Origin, last_redirection, last_renewal, redirection_behind, redirection_by, renewal_behind, renewal_by, route_at}
-use Rattle.usp_trace.specs.Issues.{Use, parent_of, use_at, use_of}
+use Rattle.usp_trace.specs.Grants.{GrantMet, IsForEdge, IsInTime, IsUseMet, Origin, last_redirection, last_renewal, redirection_behind, redirection_by, renewal_behind, renewal_by, route_at}
+use Rattle.usp_trace.specs.Issues.{Use}
 use Rattle.usp_trace.specs.Laws.{AreRenewedAt, AreSentBy, HasAudienceOfRoute, IsDirect, IsUnrenewed, IsUseBehind, IsWithinPeriod, WasRenewed, WasResigned, WasUsed}
-use Rattle.usp_trace.specs.Sound.{IsDue, IsRedirection, IsRenewal, IsUsed, Sound}
+use Rattle.usp_trace.specs.Sound.{IsUsed, Sound}
 use Rattle.usp_trace.proofs.Chained.{one_grant}
 use Rattle.usp_trace.proofs.Ordered.{first_has, first_least, get_front}
 use Rattle.usp_trace.proofs.Origins.{one_origin}
@@ -52,38 +53,17 @@ was_used_at sites ledger place parent asked site members h = record {
   valid = h.valid;
 }
 
-same_number : (a b : ℕ) → Some a ≡ Some b → a ≡ b
-same_number a b e = cc
+pub sound_used_to_renew : (ledger : List Issue) (sites : List SiteValue) (place parent : ℕ) (asked : Use) (token : List ℕ) → Sound ledger sites
+    → slice_get ledger place ≡ Some (Renewed parent asked.edge asked.uri asked.moment token) → WasUsed sites ledger place parent asked
+sound_used_to_renew ledger sites place parent asked token sound at =
+    let due = sound.each place (Renewed parent asked.edge asked.uri asked.moment token) at in
+    was_used_at sites ledger place parent asked due.site due.members due.used
 
-same_use : (a b : Use) → Some a ≡ Some b → a ≡ b
-same_use a b e = cc
-
-nothing_is : (n : ℕ) → None ≡ Some n → ⊥
-nothing_is n e = cc e
-
-moved_use : (sites : List SiteValue) (ledger : List Issue) (place parent other : ℕ) (asked made : Use) → Some other ≡ Some parent → Some made ≡ Some asked → WasUsed sites ledger place other made
-    → WasUsed sites ledger place parent asked
-moved_use sites ledger place parent other asked made is of h =
-    subst (λ (n : ℕ). WasUsed sites ledger place n asked) (same_number other parent is) (subst (λ (u : Use). WasUsed sites ledger place other u) (same_use made asked of) h)
-
-renewal_used : (sites : List SiteValue) (ledger : List Issue) (place parent : ℕ) (asked : Use) (token : List ℕ) → IsRenewal sites ledger place parent asked token → WasUsed sites ledger place parent asked
-renewal_used sites ledger place parent asked token due = was_used_at sites ledger place parent asked due.site due.members due.used
-
-redirection_used : (sites : List SiteValue) (ledger : List Issue) (place parent : ℕ) (asked : Use) (route : ℕ) (token : List ℕ) → IsRedirection sites ledger place parent asked route token
-    → WasUsed sites ledger place parent asked
-redirection_used sites ledger place parent asked route token due = was_used_at sites ledger place parent asked due.site due.members due.used
-
-due_used : (sites : List SiteValue) (ledger : List Issue) (place parent : ℕ) (issue : Issue) (asked : Use) → IsDue sites ledger place issue → parent_of issue ≡ Some parent → use_of issue ≡ Some asked
-    → WasUsed sites ledger place parent asked
-due_used sites ledger place parent (Grant token) asked due is of = absurd (nothing_is parent is)
-due_used sites ledger place parent (Renewed other edge uri moment token) asked due is of =
-    moved_use sites ledger place parent other asked (use_at edge uri moment) is of (renewal_used sites ledger place other (use_at edge uri moment) token due)
-due_used sites ledger place parent (Resigned other edge uri moment route token) asked due is of =
-    moved_use sites ledger place parent other asked (use_at edge uri moment) is of (redirection_used sites ledger place other (use_at edge uri moment) route token due)
-
-pub sound_used : (ledger : List Issue) (sites : List SiteValue) (place parent : ℕ) (issue : Issue) (asked : Use) → Sound ledger sites → slice_get ledger place ≡ Some issue → parent_of issue ≡ Some parent
-    → use_of issue ≡ Some asked → WasUsed sites ledger place parent asked
-sound_used ledger sites place parent issue asked sound at is of = due_used sites ledger place parent issue asked (sound.each place issue at) is of
+pub sound_used_to_send : (ledger : List Issue) (sites : List SiteValue) (place parent : ℕ) (asked : Use) (route : ℕ) (token : List ℕ) → Sound ledger sites
+    → slice_get ledger place ≡ Some (Resigned parent asked.edge asked.uri asked.moment route token) → WasUsed sites ledger place parent asked
+sound_used_to_send ledger sites place parent asked route token sound at =
+    let due = sound.each place (Resigned parent asked.edge asked.uri asked.moment route token) at in
+    was_used_at sites ledger place parent asked due.site due.members due.used
 
 pub sound_renewed : (ledger : List Issue) (sites : List SiteValue) (place parent edge : ℕ) (uri : List ℕ) (moment : ℕ) (token : List ℕ) → Sound ledger sites
     → slice_get ledger place ≡ Some (Renewed parent edge uri moment token) → WasRenewed sites ledger parent edge uri moment token
@@ -162,8 +142,11 @@ use_met_of ledger sites place asked used places token links before grant h chain
     let same = one_grant ledger place h.places places h.token token h.links links h.chain chain in
     let grants : h.grant ≡ grant = one_claims token h.grant grant (subst (λ (t : List ℕ). CarriesClaims t h.grant) same.0 h.claims) claims in
     subst (λ (g : Members). IsUseMet sites g before used) grants (elim at [
-      | inl named ↦ h.earlier before named.1 named.0 used (same.1 ∙ named.2) named.3
-      | inr last ↦ subst (λ (l : List Issue). IsUseMet sites h.grant l used) (same.1 ∙ sym last.0) (subst (λ (u : Use). IsUseMet sites h.grant h.links u) (sym last.1) h.last)
+      | inl named ↦ h.earlier before named.2 (Renewed named.0 used.edge used.uri used.moment named.1) used (same.1 ∙ named.3) refl
+      | inr other ↦ elim other [
+        | inl named ↦ h.earlier before named.3 (Resigned named.0 used.edge used.uri used.moment named.1 named.2) used (same.1 ∙ named.4) refl
+        | inr last ↦ subst (λ (l : List Issue). IsUseMet sites h.grant l used) (same.1 ∙ sym last.0) (subst (λ (u : Use). IsUseMet sites h.grant h.links u) (sym last.1) h.last)
+      ]
     ])
 
 pub met_container : (ledger : List Issue) (sites : List SiteValue) (place : ℕ) (asked : Use) (places token origin : List ℕ) (links : List Issue) (grant : Members)
@@ -187,7 +170,7 @@ route_found None route sent e = cc
 route_found (Some from) route sent e = (from, refl, e)
 
 audience_of_route : (sites : List SiteValue) (site : SiteValue) (edge route : ℕ) (aud : Option Json) → is_some aud ≡ true
-    → IfSome aud (λ aud. (sent : RouteValue) × (route_at sites (edge, route) ≡ Some sent) × HasIdentity site sent.audience) → HasAudienceOfRoute sites edge route site
+    → IfSome aud (λ aud. (sent : RouteValue) × (route_at sites (edge, route) ≡ Some sent) × (has_identity site.profile.audience sent.audience ≡ true)) → HasAudienceOfRoute sites edge route site
 audience_of_route sites site edge route None there h = cc
 audience_of_route sites site edge route (Some aud) there h =
     let r = route_found (slice_get sites edge) route h.0 h.1 in

@@ -1,12 +1,11 @@
 -- Whether a use of a token met the grant that the token comes from.
 use Rattle.std.specs.Prelude.{◌≡◌, ◌≢◌, ℕ, ◌+◌, ◌<◌, true, List, [], ◌∷◌, ◌++◌, codes, Option, Some, None, IfSome, slice_get}
-use Rattle.std.specs.List.{list_any}
 use Rattle.std.specs.Option.{option_and_then}
-use Rattle.std.specs.Str.{bytes_eq}
 use Rattle.usp_claims.specs.Table.{claim, period_claim, text_claim}
 use Rattle.usp_issue.specs.Routes.{RouteValue}
 use Rattle.usp_issue.specs.Sites.{SiteValue}
 use Rattle.usp_json.specs.declared.value.Members.{Members}
+use Rattle.usp_jws.specs.Letters.{has_identity}
 use Rattle.usp_rules.specs.Constraints.{IsContained, is_begun, is_for, is_unexpired}
 use Rattle.usp_rules.specs.Tokens.{CarriesClaims}
 use Rattle.usp_trace.specs.declared.issue.Issue.{Issue}
@@ -78,17 +77,14 @@ last_renewal links = renewal_behind None links
 abbrev pub route_at : List SiteValue → ℕ × ℕ → Option RouteValue
 route_at sites at = option_and_then (λ site. slice_get site.routes at.1) (slice_get sites at.0)
 
--- one of the identities of the edge is that audience
-abbrev pub HasIdentity : SiteValue → (audience : List ℕ) → Type 0
-HasIdentity site audience = list_any (bytes_eq audience) site.profile.audience ≡ true
-
 -- The grant's audience admits the edge, or behind a redirection the edge has the audience of the last one. A grant
 -- without `aud` asks for none.
 abbrev pub IsForEdge : List SiteValue → (grant : Members) → SiteValue → (last : Option (ℕ × ℕ)) → Type 0
 IsForEdge sites grant site None = is_for site.profile.audience grant ≡ true
 IsForEdge sites grant site (Some last) =
     IfSome (claim (codes "aud") grant)
-    (λ aud. (sent : RouteValue) × (route_at sites last ≡ Some sent) × HasIdentity site sent.audience)
+    (λ aud. (sent : RouteValue) × (route_at sites last ≡ Some sent)
+    × (has_identity site.profile.audience sent.audience ≡ true))
 
 -- The moment is before the grant's `exp`, where that is there, or behind a renewal within the grant's `cdniets` of the
 -- last one.

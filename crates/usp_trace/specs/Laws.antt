@@ -9,14 +9,14 @@ use Rattle.usp_issue.specs.Sites.{SiteValue}
 use Rattle.usp_json.specs.Canon.{canon_members}
 use Rattle.usp_json.specs.declared.value.Members.{Members}
 use Rattle.usp_jws.specs.Keys.{KeyValue}
+use Rattle.usp_jws.specs.Letters.{has_identity}
 use Rattle.usp_jws.specs.Sealed.{sealed}
 use Rattle.usp_rules.specs.Rules.{Valid}
 use Rattle.usp_rules.specs.Tokens.{CarriesClaims}
 use Rattle.usp_trace.specs.declared.issue.Issue.{Issue}
 use Rattle.usp_trace.specs.declared.issue.Issue.TheVariants.{Grant, Renewed, Resigned}
 use Rattle.usp_trace.specs.Chains.{token_at}
-use Rattle.usp_trace.specs.Grants.{HasIdentity}
-use Rattle.usp_trace.specs.Issues.{Use, use_of}
+use Rattle.usp_trace.specs.Issues.{Use}
 use Rattle.usp_trace.specs.Sound.{presented_by}
 
 -- ---- what soundness says of an issue that is no grant
@@ -67,11 +67,15 @@ pub record WasResigned (sites : List SiteValue) (ledger : List Issue) (parent ed
 
 -- ---- the uses of a chain
 
--- A use that one of the links names, behind the links before it, or the last one, behind all.
+-- A use that one of the links names, a renewal or a redirection, behind the links before it, or the last one, behind
+-- all.
 abbrev pub IsUseBehind : (links : List Issue) → (asked : Use) → (before : List Issue) → (used : Use) → Type 0
 IsUseBehind links asked before used =
-    ((link : Issue) × (after : List Issue) × (links ≡ before ++ link ∷ after) × (use_of link ≡ Some used))
-    ⊎ ((before ≡ links) × (used ≡ asked))
+    ((parent : ℕ) × (token : List ℕ) × (after : List Issue)
+    × (links ≡ before ++ Renewed parent used.edge used.uri used.moment token ∷ after))
+    ⊎ (((parent : ℕ) × (route : ℕ) × (token : List ℕ) × (after : List Issue)
+    × (links ≡ before ++ Resigned parent used.edge used.uri used.moment route token ∷ after))
+    ⊎ ((before ≡ links) × (used ≡ asked)))
 
 abbrev pub is_redirection : Issue → Bool
 is_redirection (Grant token) = false
@@ -106,7 +110,7 @@ AreRenewedAt moment links =
 abbrev pub HasAudienceOfRoute : List SiteValue → (edge route : ℕ) → SiteValue → Type 0
 HasAudienceOfRoute sites edge route site =
     (from : SiteValue) × (sent : RouteValue) × (slice_get sites edge ≡ Some from)
-    × (slice_get from.routes route ≡ Some sent) × HasIdentity site sent.audience
+    × (slice_get from.routes route ≡ Some sent) × (has_identity site.profile.audience sent.audience ≡ true)
 
 -- The moment is within a period of `cdniets` from that one.
 abbrev pub IsWithinPeriod : (grant : Members) → (start moment : ℕ) → Type 0

@@ -1,8 +1,8 @@
 //! Laws of ledgers. Each is a theorem for the crates above.
 
-ghost use Rattle.std.specs.Prelude.{◌≡◌, ◌<◌, List, Option, ℕ, [], ◌∷◌, ◌++◌, Some, codes, length, slice_get, true};
+ghost use Rattle.std.specs.Prelude.{◌≡◌, ◌≢◌, ◌+◌, ◌<◌, List, Option, ℕ, [], ◌∷◌, ◌++◌, Some, codes, length, slice_get, true};
 ghost use Rattle.std.specs.Option.{is_some};
-ghost use Rattle.usp_claims.specs.Table.{claim};
+ghost use Rattle.usp_claims.specs.Table.{claim, text_claim};
 ghost use Rattle.usp_issue.specs.Sites.{SiteValue};
 ghost use Rattle.usp_json.specs.declared.value.Members.{Members};
 ghost use Rattle.usp_rules.specs.Constraints.{IsContained, is_begun, is_for, is_unexpired};
@@ -11,7 +11,7 @@ ghost use Rattle.usp_rules.specs.Tokens.{CarriesClaims};
 ghost use Rattle.usp_trace.specs.Chains.{Chain, IsChain, IsIssued, IsOrdered, first_place, token_at};
 ghost use Rattle.usp_trace.specs.Descent.{Descends};
 ghost use Rattle.usp_trace.specs.Grants.{GrantMet, Origin};
-ghost use Rattle.usp_trace.specs.Issues.{Use, parent_of, use_of};
+ghost use Rattle.usp_trace.specs.Issues.{Use, parent_of};
 ghost use Rattle.usp_trace.specs.Laws.{AreRenewedAt, AreSentBy, HasAudienceOfRoute, IsDirect, IsUnrenewed, IsUseBehind, IsWithinPeriod, WasRenewed, WasResigned, WasUsed};
 ghost use Rattle.usp_trace.specs.Sound.{IsDue, Sound, presented_by};
 ghost use Rattle.usp_trace.specs.declared.issue.Issue.{Issue};
@@ -41,10 +41,54 @@ pub fn has_one_chain()
         × (slice_get places 0 ≡ Some first) × (slice_get ledger first ≡ Some (Grant token)) }
 {}
 
+/// A chain has one place more than links, and ends at its own place. Link n, counted from 0, is the issue at place
+/// n + 1 of the chain, and its parent is place n of the chain.
+pub fn names_each_link()
+    ensures long { (ledger : List Issue) (place : ℕ) (places token : List ℕ) (links : List Issue)
+        → Chain ledger place places token links → length places ≡ length links + 1 }
+    ensures last { (ledger : List Issue) (place : ℕ) (places token : List ℕ) (links : List Issue)
+        → Chain ledger place places token links → slice_get places (length links) ≡ Some place }
+    ensures link { (ledger : List Issue) (place : ℕ) (places token : List ℕ) (links : List Issue)
+        (number : ℕ) (link : Issue) → Chain ledger place places token links
+        → slice_get links number ≡ Some link → (at : ℕ)
+        × (slice_get places (number + 1) ≡ Some at) × (slice_get ledger at ≡ Some link) }
+    ensures parent { (ledger : List Issue) (place : ℕ) (places token : List ℕ) (links : List Issue)
+        (number : ℕ) (link : Issue) → Chain ledger place places token links
+        → slice_get links number ≡ Some link → (parent : ℕ)
+        × (slice_get places number ≡ Some parent) × (parent_of link ≡ Some parent) }
+{}
+
 /// A use has one origin.
 pub fn has_one_origin()
     ensures { (ledger : List Issue) (place : ℕ) (uri a b : List ℕ)
         → Origin ledger place uri a → Origin ledger place uri b → a ≡ b }
+{}
+
+/// Where a use comes from, one link back: at a grant from the URI itself; at a renewal, and at a redirection whose
+/// container text is its parent's, from the same URI at the parent; at each other redirection from the URI that it
+/// names.
+pub fn follows_the_links()
+    ensures granted { (ledger : List Issue) (place : ℕ) (uri origin token : List ℕ)
+        → slice_get ledger place ≡ Some (Grant token) → Origin ledger place uri origin
+        → origin ≡ uri }
+    ensures renewed { (ledger : List Issue) (place parent edge moment : ℕ)
+        (uri origin named token : List ℕ)
+        → slice_get ledger place ≡ Some (Renewed parent edge named moment token)
+        → Origin ledger place uri origin → Origin ledger parent uri origin }
+    ensures kept { (ledger : List Issue) (place parent edge moment route : ℕ)
+        (uri origin named token used : List ℕ) (before after : Members)
+        → slice_get ledger place ≡ Some (Resigned parent edge named moment route token)
+        → token_at ledger parent ≡ Some used → CarriesClaims used before
+        → CarriesClaims token after
+        → text_claim (codes "cdniuc") before ≡ text_claim (codes "cdniuc") after
+        → Origin ledger place uri origin → Origin ledger parent uri origin }
+    ensures narrowed { (ledger : List Issue) (place parent edge moment route : ℕ)
+        (uri origin named token used : List ℕ) (before after : Members)
+        → slice_get ledger place ≡ Some (Resigned parent edge named moment route token)
+        → token_at ledger parent ≡ Some used → CarriesClaims used before
+        → CarriesClaims token after
+        → text_claim (codes "cdniuc") before ≢ text_claim (codes "cdniuc") after
+        → Origin ledger place uri origin → Origin ledger parent named origin }
 {}
 
 /// A sound ledger stays sound with one more issue that is what it must be at the next place.
@@ -55,9 +99,13 @@ pub fn stays_sound()
 
 /// What soundness says of each issue that is no grant: where it comes from, and what it is of its parent.
 pub fn says_what_is_sound()
-    ensures used { (ledger : List Issue) (sites : List SiteValue) (place parent : ℕ) (issue : Issue)
-        (asked : Use) → Sound ledger sites → slice_get ledger place ≡ Some issue
-        → parent_of issue ≡ Some parent → use_of issue ≡ Some asked
+    ensures used_to_renew { (ledger : List Issue) (sites : List SiteValue) (place parent : ℕ)
+        (asked : Use) (token : List ℕ) → Sound ledger sites → slice_get ledger place
+        ≡ Some (Renewed parent asked.edge asked.uri asked.moment token)
+        → WasUsed sites ledger place parent asked }
+    ensures used_to_send { (ledger : List Issue) (sites : List SiteValue) (place parent : ℕ)
+        (asked : Use) (route : ℕ) (token : List ℕ) → Sound ledger sites → slice_get ledger place
+        ≡ Some (Resigned parent asked.edge asked.uri asked.moment route token)
         → WasUsed sites ledger place parent asked }
     ensures renewed { (ledger : List Issue) (sites : List SiteValue) (place parent edge : ℕ)
         (uri : List ℕ) (moment : ℕ) (token : List ℕ) → Sound ledger sites

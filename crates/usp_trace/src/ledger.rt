@@ -1,7 +1,7 @@
 //! The ledger.
 ghost use Rattle.std.specs.Prelude.{◌≡◌, ◌<◌, ◌≤◌, List, ℕ, [], ◌∷◌, ◌++◌, Some, length, slice_get, IfOk, IfErr, IfSome, OnOk, OnErr};
 ghost use Rattle.usp_issue.specs.Sites.{SiteValue};
-ghost use Rattle.usp_trace.specs.Chains.{IsChain, first_place};
+ghost use Rattle.usp_trace.specs.Chains.{IsChain, IsOrdered, first_place};
 ghost use Rattle.usp_trace.specs.Issues.{parent_of};
 ghost use Rattle.usp_trace.specs.Sound.{IsDue, Sound};
 
@@ -41,10 +41,11 @@ impl Ledger {
         }
     }
 
-    /// How many issues there are.
+    /// How many issues there are. A ledger is ordered, as the laws of its chains ask.
     pub fn len(&self) -> u32
         ensures value { result ≡ length self.now }
         ensures bound { result ≤ MAX_ISSUES }
+        ensures ordered { IsOrdered self.now }
     {
         self.issues.len() as u32
     }

@@ -23,8 +23,8 @@ mod tests;
 pub use fault::NoMemory;
 pub use issue::Issue;
 pub use laws::{
-    finds_the_least_place, hands_on_the_grant, has_one_chain, has_one_origin, meets_its_grant,
-    says_what_is_met, says_what_is_sound, stays_met, stays_sound,
+    finds_the_least_place, follows_the_links, hands_on_the_grant, has_one_chain, has_one_origin,
+    meets_its_grant, names_each_link, says_what_is_met, says_what_is_sound, stays_met, stays_sound,
 };
 pub use ledger::Ledger;
 pub use limits::{MAX_ISSUES, limits_are_told};

@@ -88,11 +88,12 @@ fn payload_of(alloc: Global, sheet: &Sheet) -> Result<String, Fail> {
         write!(text, ",\"aud\":\"e{edge}\"")?;
     }
     push_number(&mut text, "nbf", sheet.begins)?;
-    push_number(&mut text, "exp", sheet.ends)?;
     push_number(&mut text, "cdniets", sheet.period)?;
     if sheet.period.is_some() {
         text.push_str(",\"cdnistt\":1")?;
     }
+    // A renewal that adds an end puts it behind the other claims.
+    push_number(&mut text, "exp", sheet.ends)?;
     text.push('}')?;
     Ok(text)
 }
