@@ -245,14 +245,28 @@ fn two_threads_make_thousands_of_calls(rt: HostRuntime) -> Result<(), Fail> {
 #[test]
 fn eight_threads_wake_each_other(rt: HostRuntime) -> Result<(), Fail> {
     let alloc = rt.alloc();
-    let (nonces, mut seat) = share(alloc, 8, 1_600)?;
-    let mut callers = Vec::with_capacity(alloc, 8)?;
-    for _ in 0..7 {
-        assert!(rt; seat.left() >= 200);
-        let given = nonces.split(&mut seat, 200)?;
-        callers.push(Caller::new(alloc, &nonces, given))?;
-    }
-    callers.push(Caller::new(alloc, &nonces, seat))?;
+    let (nonces, mut a) = share(alloc, 8, 1_600)?;
+    assert!(rt; a.left() >= 1_400);
+    let b = nonces.split(&mut a, 200)?;
+    let c = nonces.split(&mut a, 200)?;
+    let d = nonces.split(&mut a, 200)?;
+    let e = nonces.split(&mut a, 200)?;
+    let f = nonces.split(&mut a, 200)?;
+    let g = nonces.split(&mut a, 200)?;
+    let h = nonces.split(&mut a, 200)?;
+    let mut callers = Vec::from_array(
+        alloc,
+        [
+            Caller::new(alloc, &nonces, a),
+            Caller::new(alloc, &nonces, b),
+            Caller::new(alloc, &nonces, c),
+            Caller::new(alloc, &nonces, d),
+            Caller::new(alloc, &nonces, e),
+            Caller::new(alloc, &nonces, f),
+            Caller::new(alloc, &nonces, g),
+            Caller::new(alloc, &nonces, h),
+        ],
+    )?;
     thread::for_each_mut(
         &rt,
         callers.as_mut_slice(),
@@ -260,8 +274,15 @@ fn eight_threads_wake_each_other(rt: HostRuntime) -> Result<(), Fail> {
         &|_, caller| { caller.ask_often(&rt, alloc, 200) },
     );
     assert_eq!(rt; each_place_was_told_once(&rt, alloc, &callers)?, 1_600);
+    Ok(())
+}
+
+#[test]
+fn want_of_memory_says_what_to_mend(rt: HostRuntime) -> Result<(), Fail> {
+    let alloc = rt.alloc();
+    let text = NoMemory.to_string(alloc)?;
     assert_eq!(rt;
-        NoMemory.to_string(alloc)?.as_str(),
+        text.as_str(),
         "there is no memory left: give the program more"
     );
     Ok(())
