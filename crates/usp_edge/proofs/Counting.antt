@@ -1,5 +1,5 @@
 -- How many heads come, and how many nonce calls.
-use Rattle.std.proofs.Common.{◌≡◌, refl, sym, ap, ◌∙◌, subst, ℕ, ◌+◌, ◌≤◌, ◌<◌, List, [], length, length-append, Option, Some, None, Bool, true, false, if◌then◌else◌, ◌==◌, inl, inr, eq-or-lt_of_le, arith}
+use Rattle.std.proofs.Common.{◌≡◌, refl, sym, ap, ◌∙◌, subst, ℕ, ◌+◌, ◌≤◌, ◌<◌, List, length, length-append, Option, Some, None, Bool, true, false, if◌then◌else◌, ◌==◌, inl, inr, eq-or-lt_of_le, arith}
 use Rattle.std.specs.Prelude.{◌⊎◌}
 use Rattle.usp_conf.specs.Values.{ConfValue}
 use Rattle.usp_http.specs.declared.head.Head.{Head}

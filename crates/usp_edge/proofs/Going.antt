@@ -1,6 +1,5 @@
 -- How a connection goes on.
-use Rattle.std.proofs.Common.{◌≡◌, refl, sym, ap, ◌∙◌, subst, ℕ, ◌+◌, ◌≤◌, ◌<◌, List, [], ◌++◌, take, append_assoc, append-nil, length-append, Option, Some, None, Bool, if◌then◌else◌, ◌==◌, inl, inr, eq-or-lt_of_le, arith}
-use Rattle.std.specs.Prelude.{◌⊎◌}
+use Rattle.std.proofs.Common.{◌≡◌, refl, sym, ap, ◌∙◌, subst, ℕ, ◌+◌, ◌≤◌, List, [], ◌++◌, take, append_assoc, append-nil, Option, Some, None, Bool, ◌==◌, inl, inr, arith}
 use Rattle.std.specs.Io.KnownBytes.{append_known, prepend_known}
 use Rattle.usp_base.specs.Outside.{Rose}
 use Rattle.httparse.proofs.GrammarLemmas.{ReadsRequest-append}
@@ -18,7 +17,6 @@ use Rattle.usp_edge.specs.Serving.{Broken, Closes, Did, DidProgress, Line, Met, 
 use Rattle.usp_edge.specs.Session.{Progress, Goes, at_head, at_rest, begins, end_behind, end_of, further, is_full, is_last, start, worked}
 use Rattle.usp_edge.specs.Work.{Work, Works, work_text}
 use Rattle.usp_edge.specs.declared.end.End.{End}
-use Rattle.usp_edge.specs.declared.end.End.TheVariants as ending
 use Rattle.usp_edge.specs.declared.limits.TheConstants.{MAX_HEADS}
 use Rattle.usp_edge.proofs.Doing.{appended_both, appended_none, did_both, did_none}
 

@@ -1,5 +1,5 @@
 -- A session has one outcome, for the moments, the nonce calls and the finds that it met.
-use Rattle.std.proofs.Common.{◌≡◌, ◌⊎◌, refl, sym, ap, ◌∙◌, subst, ℕ, ◌+◌, ◌≤◌, ◌<◌, List, [], ◌∷◌, ◌++◌, length, append_assoc, append-nil, length-append, Some, None, inl, inr, eq-or-lt_of_le, arith}
+use Rattle.std.proofs.Common.{◌≡◌, ◌⊎◌, refl, sym, ap, ◌∙◌, subst, ℕ, ◌≤◌, ◌<◌, List, [], ◌∷◌, ◌++◌, length, append_assoc, append-nil, length-append, Some, None, inl, inr, eq-or-lt_of_le, arith}
 use Rattle.std.proofs.lemmas.Bool.{cases_order}
 use Rattle.std.proofs.lemmas.List.{append_cancel_left, take_all}
 use Rattle.std.proofs.lemmas.Option.{none-some, same_Some, some_pair_parts}

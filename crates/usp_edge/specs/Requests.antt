@@ -27,7 +27,6 @@ use Rattle.usp_edge.specs.declared.judgement.Passed.{Passed}
 use Rattle.usp_edge.specs.declared.note.Note.{Note}
 use Rattle.usp_edge.specs.declared.note.Subject.{Subject}
 use Rattle.usp_edge.specs.declared.note.Verdict.{Verdict}
-use Rattle.usp_edge.specs.declared.note.Verdict.TheVariants as verdict
 use Rattle.usp_edge.specs.declared.prepared.Prepared.{Prepared}
 use Rattle.usp_edge.specs.declared.prepared.Prepared.TheVariants as prepared
 use Rattle.usp_edge.specs.declared.prepared.Renewal.{Renewal}

@@ -1,6 +1,6 @@
 use Rattle.std.proofs.Common.{◌<◌, ◌∙◌, ap, arith, sym}
 use Rattle.usp_issue.specs.Sites.{SiteValue}
-use Rattle.usp_edge.proofs.Routing.{place_below, sends_nowhere}
+use Rattle.usp_edge.proofs.Routing.{place_fits, sends_nowhere}
 use Rattle.usp_edge.proofs.issuing.sent_on.Goals as goal
 
 pub returns-then-is_empty : goal.returns-then-is_empty
@@ -11,5 +11,5 @@ returns-then-is_empty g c =
 pub overflow_cast-result : goal.overflow_cast-result
 overflow_cast-result g c =
     let below : c.in-Some.place < 65536 =
-    place_below _ _ _ _ _ _ (c.in-Some.place, c.in-Some.signed) c.in_ok-redirect.ensures.sent c.in-Some.is c.routes.ensures.few in
+    place_fits _ _ _ _ _ _ c.in-Some.place c.in-Some.signed c.in_ok-redirect.ensures.sent c.in-Some.is c.routes.ensures.few in
     omega (arith, below)

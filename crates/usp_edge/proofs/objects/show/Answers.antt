@@ -1,4 +1,4 @@
-use Rattle.std.proofs.Common.{Some, None, Option, ℕ, List, Err, ap, ◌∙◌, arith, subst}
+use Rattle.std.proofs.Common.{Some, None, ℕ, List, Err, ap, ◌∙◌, arith, subst}
 use Rattle.std.specs.Prelude.{IfSome, ◌≡◌}
 use Rattle.usp_base.specs.declared.fault.LoadFault.{LoadFault}
 use Rattle.usp_edge.specs.Outcomes.{failed, object}
