@@ -11,7 +11,6 @@ ghost use Rattle.std.specs.Prelude.{None};
 use std::alloc::Global;
 use std::io::Read;
 use std::rt::Runtime;
-use std::test::Fail;
 use std::{env, io};
 use usp_base::{
     ListedSink, ListedSource, ListedWire, LoadFault, Objects, SteadyClock, first_line, read_number,
@@ -58,12 +57,14 @@ fn input_of<R: Read>(alloc: Global, reader: &mut R) -> io::Result<Vec<u8>> {
 }
 
 // How many notes one connection leaves, and how many bytes are written on it.
-fn served(alloc: Global, kit: &Kit, conf: &Conf, bytes: &[u8]) -> Result<(usize, usize), Fail> {
+fn served(alloc: Global, kit: &Kit, conf: &Conf, bytes: &[u8]) -> io::Result<(usize, usize)> {
     let mut wire = ListedWire {
         source: ListedSource::new(bytes.to_vec(alloc)?, 16_384, Vec::new(alloc)),
         sink: ListedSink::new(alloc, Vec::new(alloc)),
     };
-    let mut nonces = NonceTable::with_room(alloc, 128)?;
+    let Ok(mut nonces) = NonceTable::with_room(alloc, 128) else {
+        return Err(io::Error::from(io::ErrorKind::OutOfMemory));
+    };
     let mut clock = SteadyClock::new(1000);
     let mut objects = SameObject {
         bytes: Vec::from_slice(alloc, &[b'x'; 1024])?,
@@ -90,12 +91,14 @@ fn number_in(word: Option<String>) -> u64 {
 }
 
 // Serves the input so many times.
-fn served_often(alloc: Global, input: &[u8], count: u64) -> Result<(usize, usize), Fail> {
+fn served_often(alloc: Global, input: &[u8], count: u64) -> io::Result<(usize, usize)> {
     if input.is_empty() {
         return Ok((0, 0));
     }
     let (text, bytes) = first_line(input);
-    let conf = read_conf(alloc, text)?;
+    let Ok(conf) = read_conf(alloc, text) else {
+        return Err(io::Error::from(io::ErrorKind::InvalidData));
+    };
     let kit = Kit::new(is_any, equals, is_one_of, is_at_most, is_path_prefix);
     let mut notes = 0usize;
     let mut written = 0usize;
@@ -113,7 +116,7 @@ fn main(rt: HostRuntime) -> io::Result<()> {
     let _ = args.next();
     let count = number_in(args.next());
     let input = input_of(alloc, &mut rt.reader())?;
-    let (notes, written) = served_often(alloc, &input, count).unwrap_or((0, 0));
+    let (notes, written) = served_often(alloc, &input, count)?;
     println!(rt; "{notes} {written}")?;
     Ok(())
 }
