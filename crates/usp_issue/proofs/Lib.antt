@@ -1,4 +1,5 @@
 pub mod Finding
+pub mod Firsts
 pub mod Fitting
 pub mod Issued
 pub mod Keeping

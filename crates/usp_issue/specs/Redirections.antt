@@ -51,6 +51,12 @@ RefusesSigning TooLong name members content moment route = IsTooLong name member
 RefusesSigning Present name members content moment route = IsPresent name content route
 RefusesSigning NoMemory name members content moment route = Unit {0}
 
+-- The request is not sent on by the route: the content's path lacks its prefix, or the content is not signed for it.
+abbrev pub IsPassedOver : (name : List ℕ) → Members → (content : List ℕ) → (moment : ℕ) → RouteValue → Type 0
+IsPassedOver name members content moment route =
+    (is_some (after_prefix route.prefix (path_in content)) ≡ false)
+    ⊎ (IsTooLong name members content moment route ⊎ IsPresent name content route)
+
 -- Of the routes, which are counted from this place, the first whose prefix the content's path has and for which the
 -- content is signed. None where there is no such route.
 pub data SendsFrom (name : List ℕ) (members : Members) (content : List ℕ) (moment : ℕ)

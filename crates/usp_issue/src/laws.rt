@@ -1,9 +1,10 @@
 //! Laws of renewal, of signing again and of redirection. Each is a theorem for the crates above.
 
-ghost use Rattle.std.specs.Prelude.{◌≡◌, ◌⊎◌, ◌+◌, ◌<◌, ◌≤◌, ◌++◌, List, Option, ℕ, Some, false, true, codes, length};
+ghost use Rattle.std.specs.Prelude.{◌≡◌, ◌⊎◌, ◌+◌, ◌<◌, ◌≤◌, ◌++◌, List, Option, ℕ, None, Some, false, true, codes, length, slice_get};
 ghost use Rattle.std.specs.Fmt.{decimal};
-ghost use Rattle.std.specs.Option.{option_map};
+ghost use Rattle.std.specs.Option.{is_some, option_map};
 ghost use Rattle.std.specs.Str.{bytes_eq};
+ghost use Rattle.usp_base.specs.Cuts.{after_prefix};
 ghost use Rattle.usp_base.specs.declared.clock.TheConstants.{MOMENT_BOUND};
 ghost use Rattle.usp_claims.specs.Table.{claim, text_claim};
 ghost use Rattle.usp_claims.specs.declared.limits.TheConstants.{MAX_PAYLOAD};
@@ -21,8 +22,9 @@ ghost use Rattle.usp_rules.specs.Rules.{Valid};
 ghost use Rattle.usp_rules.specs.Segment.{segment_of};
 ghost use Rattle.usp_rules.specs.Tokens.{CarriesClaims};
 ghost use Rattle.usp_rules.specs.declared.profile.Profile.{Profile};
+ghost use Rattle.usp_uri.specs.Components.{path_in};
 ghost use Rattle.usp_issue.specs.Edges.{AreUsable, Knows};
-ghost use Rattle.usp_issue.specs.Redirections.{IsPresent, IsTooLong, SendsFrom, Signs};
+ghost use Rattle.usp_issue.specs.Redirections.{IsPassedOver, IsPresent, IsTooLong, SendsFrom, Signs};
 ghost use Rattle.usp_issue.specs.Renewals.{IsRenewed, for_period, renew};
 ghost use Rattle.usp_issue.specs.Resignings.{IsResigned, Resigns, target_of};
 ghost use Rattle.usp_issue.specs.Routes.{RouteValue};
@@ -107,6 +109,27 @@ pub fn sends_in_one_way()
         → SendsFrom name m content moment place routes a
         → SendsFrom name m content moment place routes b
         → a ≡ b }
+{}
+
+/// A request is sent on by the first route that signs for it: the content's path has that route's prefix and
+/// the content is signed for it, and each route before it lacks the prefix or is refused. Where it is sent on
+/// by none, each route lacks the prefix or is refused.
+pub fn sends_by_the_first()
+    ensures sends { (name : List ℕ) (m : Members) (content : List ℕ) (moment place : ℕ)
+        (routes : List RouteValue) (signed : Signed)
+        → SendsFrom name m content moment 0 routes (Some (place, signed))
+        → (route : RouteValue) × (slice_get routes place ≡ Some route)
+        × (is_some (after_prefix route.prefix (path_in content)) ≡ true)
+        × Signs name m content moment route signed }
+    ensures before { (name : List ℕ) (m : Members) (content : List ℕ) (moment place earlier : ℕ)
+        (routes : List RouteValue) (signed : Signed) (route : RouteValue)
+        → SendsFrom name m content moment 0 routes (Some (place, signed))
+        → earlier < place → slice_get routes earlier ≡ Some route
+        → IsPassedOver name m content moment route }
+    ensures none { (name : List ℕ) (m : Members) (content : List ℕ) (moment place : ℕ)
+        (routes : List RouteValue) (route : RouteValue)
+        → SendsFrom name m content moment 0 routes None → slice_get routes place ≡ Some route
+        → IsPassedOver name m content moment route }
 {}
 
 /// A token that was valid at an edge, and is renewed with a key that the edge knows, is valid there for

@@ -28,7 +28,10 @@ mod tests;
 mod used;
 
 pub use fault::{IssueFault, NoMemory};
-pub use laws::{changes_few_claims, issued_tokens_pass, reads_what_was_sealed, sends_in_one_way};
+pub use laws::{
+    changes_few_claims, issued_tokens_pass, reads_what_was_sealed, sends_by_the_first,
+    sends_in_one_way,
+};
 pub use limits::{MAX_CLAIMS, MAX_ROUTES, MAX_TOKEN, limits_are_told};
 pub use redirecting::redirect;
 pub use renewing::renewed;
