@@ -3,3 +3,4 @@ pub mod Keeping
 pub mod Settings
 pub mod Places
 pub mod Headers
+pub mod Descending

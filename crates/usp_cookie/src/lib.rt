@@ -29,7 +29,10 @@ mod writing;
 pub use cookie::Cookie;
 pub use fault::NoMemory;
 pub use jar::Jar;
-pub use laws::{keeps_at_most_its_limit, keeps_the_most_segments, sends_each_that_covers};
+pub use laws::{
+    gives_longer_paths_first, keeps_at_most_its_limit, keeps_the_most_segments,
+    sends_each_that_covers,
+};
 pub use limits::{MAX_COOKIES, limits_are_told};
 pub use path::cookie_path;
 pub use reading::token_of;
