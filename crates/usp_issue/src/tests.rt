@@ -16,6 +16,8 @@ use usp_package::AttrName;
 use usp_rules::Profile;
 use usp_uri::{Place, Uri, read_uri};
 
+mod passing;
+
 fn attribute() -> Result<AttrName, Fail> {
     match AttrName::new(b"URISigningPackage") {
         Some(name) => Ok(name),
@@ -85,17 +87,20 @@ fn claims_are_renewed_for_one_more_period(rt: HostRuntime) -> Result<(), Fail> {
             ),
         ),
         (
-            "{\"cdniuc\":\"regex:a\",\"cdnistt\":1,\"cdniets\":30,\"cdnistd\":4}",
+            "{\"iss\":\"cp\",\"exp\":100,\"iat\":10,\"cdniuc\":\"regex:a\",\"cdnistt\":1,\"cdniets\":30,\"cdnistd\":4}",
             "http://h/v/1/s.ts",
             None,
         ),
         (
-            "{\"cdniuc\":\"regex:a\",\"cdnistt\":1,\"cdniets\":30,\"cdnistd\":3}",
+            "{\"iss\":\"cp\",\"exp\":100,\"iat\":10,\"cdniuc\":\"regex:a\",\"cdnistt\":1,\"cdniets\":30,\"cdnistd\":3}",
             "http://h/v/1/s.ts",
-            Some("{\"cdniuc\":\"regex:a\",\"cdnistt\":1,\"cdniets\":30,\"cdnistd\":3,\"exp\":80}"),
+            Some(
+                "{\"iss\":\"cdn-a\",\"exp\":80,\"iat\":50,\"cdniuc\":\"regex:a\",\"cdnistt\":1,\"cdniets\":30,\
+                \"cdnistd\":3}",
+            ),
         ),
         (
-            "{\"cdniuc\":\"regex:a\",\"cdnistt\":0,\"cdniets\":30}",
+            "{\"iss\":\"cp\",\"exp\":100,\"iat\":10,\"cdniuc\":\"regex:a\",\"cdnistt\":0,\"cdniets\":30}",
             "http://h/v/1/s.ts",
             None,
         ),
