@@ -4,8 +4,9 @@
 The stream is that of a player: requests for segments with the fields that browsers and players send. It comes in
 pieces of 16,384, 1,460 and 64 bytes, and byte by byte. Python's parser reads it from memory, whole. The two do not do
 the same: `http.client` cuts the lines and keeps the fields, and the program also tests each byte against the grammar.
-Build the program first: `rt run` in crates/usp_bench_http. Usage: bench/heads_rate.py PROGRAM [COUNT]
-PROGRAM is the built usp_bench_http. No test depends on a time.
+Build the program first: `rt run` in crates/usp_bench_http. Usage: bench/heads_rate.py PROGRAM [COUNT [PEER]]
+PROGRAM is the built usp_bench_http. PEER is a program of the same words over a parser in C, which heads_peer.c is. No
+test depends on a time.
 """
 import http.client
 import io
@@ -83,6 +84,9 @@ def main():
     for piece in (16384, 1460, 64, 1):
         own = of_program(sys.argv[1], text, count if piece > 1 else max(1, count // 10), piece)
         print(f"usp_http, {piece:6,} a read   {1 / own:12,.0f} heads/s, {python / own:6.1f} times Python's")
+        if len(sys.argv) > 3:
+            peer = of_program(sys.argv[3], text, count if piece > 1 else max(1, count // 10), piece)
+            print(f"the peer, {piece:6,} a read   {1 / peer:12,.0f} heads/s, {peer / own:6.2f} times as many here")
 
 
 if __name__ == "__main__":

@@ -1,151 +1,22 @@
-//! The real files, input and output. They count their faults. To a command they tell nothing, and a clause of
-//! each call says what passes to or from a reader or a writer that tells its bytes.
-ghost use Rattle.std.specs.Prelude.{◌≡◌, ◌≤◌, false, true, length, None, IfOk, IsErr, OnOk};
-ghost use Rattle.std.specs.Io.KnownBytes.{Appends, ReadConsumes};
-ghost use Rattle.usp_base.specs.Outside.{HasCause};
-
+//! The real files, input and output, clock, objects and connections. They count their faults. To a command they tell
+//! nothing of what they hold, and a clause of each call of input and output says what passes to or from a reader or
+//! a writer that tells its bytes.
+mod clock;
+mod door;
+mod files;
+mod line;
+mod link;
+mod names;
+mod objects;
+mod patience;
+mod streams;
 #[cfg(test)]
 mod tests;
 
-use std::alloc::Global;
-use std::fs;
-use std::io::{ErrorKind, Read, Write};
-use usp_base::{Failed, Files, LoadFault, Sink, Source};
-
-/// The files of the system.
-#[derive(Drop)]
-pub struct Folder<'a, R> {
-    rt: &'a R,
-    faults: u64,
-}
-
-impl<'a, R> Folder<'a, R> {
-    pub fn new(rt: &'a R) -> Self {
-        Folder { rt, faults: 0 }
-    }
-}
-
-impl<'a, R: std::rt::Files + AllocGlobal> Files for Folder<'a, R> {
-    ghost files = { λ _. None };
-
-    ghost asked = { λ _. None };
-
-    ghost file_count = { λ f. f.faults };
-
-    fn load(&mut self, _alloc: Global, name: &str) -> Result<Vec<u8>, LoadFault> {
-        match fs::read(self.rt, name) {
-            Ok(bytes) => Ok(bytes),
-            Err(error) => {
-                if error.kind() == ErrorKind::OutOfMemory {
-                    return Err(LoadFault::NoMemory);
-                }
-                self.faults = self.faults.saturating_add(1);
-                Err(LoadFault::Failed)
-            }
-        }
-    }
-
-    fn file_faults(&self) -> u64 {
-        self.faults
-    }
-}
-
-/// The bytes of a reader. After its end it is not asked again.
-#[derive(Drop)]
-pub struct Incoming<R> {
-    reader: R,
-    ended: bool,
-    faults: u64,
-}
-
-impl<R> Incoming<R> {
-    pub fn new(reader: R) -> Self {
-        Incoming {
-            reader,
-            ended: false,
-            faults: 0,
-        }
-    }
-}
-
-impl<R: Read + Drop> Source for Incoming<R> {
-    ghost left = { λ _. None };
-
-    ghost ended = { λ s. s.ended };
-
-    ghost read_count = { λ s. s.faults };
-
-    ghost reads = { λ _ _. Unit {0} };
-
-    // The first clauses are the trait's. Then: what is answered is what the reader gave, these bytes, no end but
-    // its own, and at a failure none; after its end nothing changes.
-    fn read(&mut self, into: &mut [u8]) -> Result<usize, Failed>
-        ensures count { IfOk result (λ n. n ≤ length into.new) }
-        ensures over { IfOk result (λ n. n ≡ 0 → self.new.ended ≡ true) }
-        ensures stays_over { self.old.ended ≡ true
-            → IfOk result (λ n. n ≡ 0) × (self.new.ended ≡ true) }
-        ensures cause { HasCause self.old.faults self.new.faults (IsErr result) }
-        ensures given { self.old.ended ≡ false
-            → ReadConsumes (R.remaining self.old.reader) (R.remaining self.new.reader)
-            result into.new }
-        ensures unasked { self.old.ended ≡ true → self.new ≡ self.old }
-    {
-        if self.ended {
-            return Ok(0);
-        }
-        match self.reader.read(into) {
-            Ok(n) => {
-                if n == 0 {
-                    self.ended = true;
-                }
-                Ok(n)
-            }
-            Err(_) => {
-                self.faults = self.faults.saturating_add(1);
-                Err(Failed)
-            }
-        }
-    }
-
-    fn read_faults(&self) -> u64 {
-        self.faults
-    }
-}
-
-/// A writer, to which each piece goes at once.
-#[derive(Drop)]
-pub struct Outgoing<W> {
-    writer: W,
-    faults: u64,
-}
-
-impl<W> Outgoing<W> {
-    pub fn new(writer: W) -> Self {
-        Outgoing { writer, faults: 0 }
-    }
-}
-
-impl<W: Write + Drop> Sink for Outgoing<W> {
-    ghost told = { λ _. None };
-
-    ghost put_count = { λ s. s.faults };
-
-    ghost puts = { λ _ _. Unit {0} };
-
-    // The first clause is the trait's. Then: what the writer takes is the piece.
-    fn put(&mut self, piece: &[u8]) -> Result<(), Failed>
-        ensures cause { HasCause self.old.faults self.new.faults (IsErr result) }
-        ensures given { OnOk result
-            (Appends (W.contents self.old.writer) (W.contents self.new.writer) piece.now) }
-    {
-        if self.writer.write_all(piece).is_err() || self.writer.flush().is_err() {
-            self.faults = self.faults.saturating_add(1);
-            return Err(Failed);
-        }
-        Ok(())
-    }
-
-    fn put_faults(&self) -> u64 {
-        self.faults
-    }
-}
+pub use clock::SystemClock;
+pub use door::TcpDoor;
+pub use files::Folder;
+pub use line::TcpLine;
+pub use link::TcpLink;
+pub use objects::FolderObjects;
+pub use streams::{Incoming, Outgoing};

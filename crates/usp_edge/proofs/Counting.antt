@@ -36,7 +36,7 @@ decides_few conf ask outcome (by_nonce content token members key calls rule judg
 decides_few conf ask outcome (by_all content token members key calls judges made verdict serves) =
     omega (arith, ap length (serves_calls conf members content ask.moment calls outcome serves), calls_few _ members content ask.moment calls made)
 
-works_few : (conf : ConfValue) (last : Bool) (head : Head) (work : Work) → Works conf last head work → length work.calls ≤ 1
+pub works_few : (conf : ConfValue) (last : Bool) (head : Head) (work : Work) → Works conf last head work → length work.calls ≤ 1
 works_few conf last head work (body announced is) = omega (arith, ap (λ w. length w.calls) is)
 works_few conf last head work (other_method unannounced method is) = omega (arith, ap (λ w. length w.calls) is)
 works_few conf last head work (request unannounced method moment outcome decides is) =

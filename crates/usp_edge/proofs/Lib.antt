@@ -1,5 +1,6 @@
 pub mod Steps
 pub mod Bounds
+pub mod Taking
 pub mod Routing
 pub mod Judging
 pub mod Doing
@@ -9,5 +10,8 @@ pub mod Answering
 pub mod Requested
 pub mod Honesty
 pub mod Showing
+pub mod MostCalls
+pub mod Deciding
+pub mod Standing
 pub mod OneWork
 pub mod OneSession

@@ -1,6 +1,8 @@
 pub mod Calls
 pub mod Gains
 pub mod TableLaws
+pub mod Seats
+pub mod SeatLaws
 pub mod Asks
 pub mod Replies
 pub mod Outcomes
@@ -10,4 +12,5 @@ pub mod Halts
 pub mod Serving
 pub mod Requests
 pub mod Honest
+pub mod Decided
 pub mod Once

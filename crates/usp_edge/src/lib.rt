@@ -27,6 +27,7 @@ mod objects;
 mod prepared;
 mod replies;
 mod request;
+mod seated;
 #[cfg(test)]
 mod tests;
 mod work;
@@ -34,7 +35,8 @@ mod work;
 pub use connection::serve_connection;
 pub use edge::Edge;
 pub use end::End;
-pub use laws::{has_one_outcome, notes_honestly, notes_its_calls};
+pub use laws::{has_one_outcome, limits_its_calls, notes_honestly, notes_its_calls};
 pub use limits::{MAX_HEADS, limits_are_told};
 pub use nonces::Nonces;
 pub use note::{Note, Verdict};
+pub use seated::Seated;

@@ -1,5 +1,6 @@
 //! One connection over the forms in memory.
 mod scenes;
+mod seats;
 
 use crate::{End, Note, Verdict};
 use scenes::{

@@ -1,5 +1,5 @@
 -- Reading line by line gives the playlist of the lines.
-use Rattle.std.proofs.Common.{◌≡◌, ◌+◌, refl, sym, ap, ◌∙◌, subst, ℕ, Bool, true, false, ◌&&◌, ◌||◌, not, nat_lt, List, [], ◌∷◌, ◌++◌, length, length-append, append_assoc, append-nil, Option, Some, None, Result, Ok, Err}
+use Rattle.std.proofs.Common.{◌≡◌, ◌+◌, refl, sym, ap, ◌∙◌, subst, ℕ, Bool, true, false, ◌&&◌, ◌||◌, not, nat_lt, List, [], ◌∷◌, ◌++◌, length, length-append, append_assoc, append-nil, Option, Some, None, Result, Ok}
 use Rattle.std.specs.Option.{is_some}
 use Rattle.usp_player.specs.ListLines.{ListLine, ending_line, inf_line, other_line, range_line, target_line, uri_line}
 use Rattle.usp_player.specs.Lists.{duration_of, fault_or, first_fault, has_end, has_inf, has_target, is_duration, list_behind, list_with, next_uri, segment_at, segment_with, segments_in, target_in, target_of, unless, uri_count, uri_fault}

@@ -1,5 +1,5 @@
 -- The playlist of a text, by what the text is.
-use Rattle.std.proofs.Common.{◌≡◌, ◌<◌, ◌≤◌, refl, ap, ◌∙◌, not, nat_lt, ℕ, List, length, Bool, true, false, Result, Ok, Err, if◌then◌else◌}
+use Rattle.std.proofs.Common.{◌≡◌, ◌<◌, ◌≤◌, refl, ap, ◌∙◌, not, ℕ, List, length, Bool, true, false, Result, Err, if◌then◌else◌}
 use Rattle.std.proofs.lemmas.Bool.{le-ltb}
 use borrow.Author.Tests.{lt-ltb}
 use Rattle.std.specs.Str.{IsUtf8, is_utf8}

@@ -4,3 +4,8 @@ pub mod Lists
 pub mod SoFar
 pub mod Steps
 pub mod Maps
+pub mod Faults
+pub mod Requests
+pub mod Playing
+pub mod Calls
+pub mod Ways

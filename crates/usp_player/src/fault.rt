@@ -1,9 +1,10 @@
-//! Why a playlist or a map was refused.
+//! Why a playlist or a map was refused, and why a player stopped.
 ghost use Rattle.std.specs.Prelude.{◌≡◌, ◌↔◌, true};
 
 use std::alloc::{AllocError, AllocFailed};
 use std::error::Error;
 use std::fmt;
+use usp_cookie::NoMemory as NoCookieMemory;
 
 /// Why a playlist was refused. Lines count from 1.
 #[derive(Clone, Copy, Debug, PartialEq, Eq)]
@@ -142,5 +143,108 @@ impl<T: Drop> From<AllocFailed<T>> for MapFault {
 
     fn from(_: AllocFailed<T>) -> Self {
         MapFault::NoMemory
+    }
+}
+
+/// Why a player stopped.
+#[derive(Clone, Copy, Debug, PartialEq, Eq)]
+pub enum PlayFault {
+    /// The URI is not UTF-8, or no URL, or one of another scheme than `http` and `https`.
+    BadUri,
+    /// The map has no place of the URL's authority.
+    NoAddress,
+    /// The link failed.
+    LinkFault,
+    /// The answer is no reply.
+    BadReply,
+    /// The reply has the status 302, and no `Location` field.
+    NoLocation,
+    /// The request is redirected more than `MAX_REDIRECTIONS` times.
+    TooManyHops,
+    /// The status is neither 200 nor 302.
+    Denied,
+    /// The body of the first URI is no playlist.
+    List(ListFault),
+    NoMemory,
+}
+
+impl PlayFault {
+    ghost use Rattle.usp_player.specs.declared.fault.PlayFault.TheVariants.{NoMemory};
+
+    /// Whether there was no memory, so that the same call may succeed later.
+    pub fn is_memory(self) -> bool
+        ensures { (result ≡ true) ↔ (self ≡ NoMemory) }
+    {
+        self == PlayFault::NoMemory
+    }
+}
+
+impl fmt::Display for PlayFault {
+    fn fmt<W: fmt::Write>(&self, f: &mut fmt::Formatter<W>) -> fmt::Result {
+        match self {
+            PlayFault::BadUri => write!(f, "give a URI of http or https, in UTF-8"),
+            PlayFault::NoAddress => write!(f, "add a line of the URI's authority to the map"),
+            PlayFault::LinkFault => write!(
+                f,
+                "the link failed: look at the server, and at the map"
+            ),
+            PlayFault::BadReply => write!(
+                f,
+                "no reply of HTTP/1 with one Content-Length and a body of that length: look at the server"
+            ),
+            PlayFault::NoLocation => write!(f, "a 302 without a Location: look at the server"),
+            PlayFault::TooManyHops => write!(
+                f,
+                "a request was redirected more than 5 times: look for a circle"
+            ),
+            PlayFault::Denied => write!(f, "the status is neither 200 nor 302: look at the token"),
+            PlayFault::List(fault) => write!(f, "the playlist: {fault}"),
+            PlayFault::NoMemory => write!(f, "out of memory: try again with more"),
+        }
+    }
+}
+
+impl Error for PlayFault {}
+
+impl From<AllocError> for PlayFault {
+    ghost use Rattle.usp_player.specs.declared.fault.PlayFault.TheVariants.{NoMemory};
+
+    ghost from_gives = { λ _ e. e ≡ NoMemory };
+
+    fn from(_: AllocError) -> Self {
+        PlayFault::NoMemory
+    }
+}
+
+impl<T: Drop> From<AllocFailed<T>> for PlayFault {
+    ghost use Rattle.usp_player.specs.declared.fault.PlayFault.TheVariants.{NoMemory};
+
+    ghost from_gives = { λ _ e. e ≡ NoMemory };
+
+    fn from(_: AllocFailed<T>) -> Self {
+        PlayFault::NoMemory
+    }
+}
+
+impl From<NoCookieMemory> for PlayFault {
+    ghost use Rattle.usp_player.specs.declared.fault.PlayFault.TheVariants.{NoMemory};
+
+    ghost from_gives = { λ _ e. e ≡ NoMemory };
+
+    fn from(_: NoCookieMemory) -> Self {
+        PlayFault::NoMemory
+    }
+}
+
+impl From<ListFault> for PlayFault {
+    ghost use Rattle.usp_player.specs.Faults.{IsListFault};
+
+    ghost from_gives = { λ list e. IsListFault list e };
+
+    fn from(fault: ListFault) -> Self {
+        match fault {
+            ListFault::NoMemory => PlayFault::NoMemory,
+            fault => PlayFault::List(fault),
+        }
     }
 }

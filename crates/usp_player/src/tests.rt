@@ -1,4 +1,6 @@
 //! Playlists and maps, and what is read of them.
+mod playing;
+
 use super::*;
 use std::alloc::{AllocError, Global};
 use std::test::Fail;

@@ -6,3 +6,8 @@ pub mod LawsLines
 pub mod LawsPassing
 pub mod LawsOnce
 pub mod LawsAnswers
+pub mod Serving
+pub mod Playing
+pub mod Programs
+pub mod Labs
+pub mod Headlines

@@ -21,7 +21,7 @@ use Rattle.usp_tool.specs.Run.{IsAnswered, PutsWhole, ReadsWhole, Shows, World, 
 use Rattle.usp_tool.specs.Words.{Command, conf_name}
 use Rattle.usp_tool.specs.declared.limits.TheConstants.{MAX_INPUT}
 
-long_is : (input : List ℕ) → MAX_INPUT < length input → is_long_input input ≡ true
+pub long_is : (input : List ℕ) → MAX_INPUT < length input → is_long_input input ≡ true
 long_is input lt = ap (λ b. b || list_any is_long_line (lines_of input)) (lt-ltb _ _ lt)
 
 -- two inputs that are too long have one outcome
@@ -52,7 +52,7 @@ long_or_works : (b : Bool) (P Q : Type 0) (o : Outcome) → (P → o.status ≡ 
 long_or_works true P Q o f h = inl (f h)
 long_or_works false P Q o f h = inr refl
 
-short_by : (b c : Bool) (n : ℕ) → nat_lt MAX_INPUT n ≡ b → (b || c) ≡ false → n ≤ MAX_INPUT
+pub short_by : (b c : Bool) (n : ℕ) → nat_lt MAX_INPUT n ≡ b → (b || c) ≡ false → n ≤ MAX_INPUT
 short_by true c n e f = let differ : true ≡ false = f in cc
 short_by false c n e f = ltb-false MAX_INPUT n e
 
@@ -105,18 +105,18 @@ shows_own command before after Outside i w = absurd i
 shows_own command before after Memory i w = absurd i
 
 -- what a put of an outcome leaves
-shows_put : {S : Type 0} (command : Command) (before after : World S) (faults_before faults : ℕ) (text : List ℕ) (status result : Status) (o : Outcome)
+shows_put : {S : Type 0} (command : Command) (before after : World S) (text : List ℕ) (status result : Status) (o : Outcome)
     → IsAnswered command before.files before.left o → IsOwn o.status → text ≡ o.text → status ≡ o.status
-    → Wrote before.told after.told faults_before faults text status result → Shows command before after result
-shows_put command before after faults_before faults text status result o answered own t s (inl wrote) =
+    → Wrote before.told after.told before.put_faults after.put_faults text status result → Shows command before after result
+shows_put command before after text status result o answered own t s (inl wrote) =
     let ends : result ≡ o.status = wrote.0 ∙ s in
     subst (λ r. Shows command before after r) (sym ends) (shows_own command before after o.status own
     (record { outcome = o; answered = answered; written = wrote.1 ∙ ap (append_known before.told) t; ends = refl }))
-shows_put command before after faults_before faults text status result o answered own t s (inr failed) =
+shows_put command before after text status result o answered own t s (inr failed) =
     subst (λ r. Shows command before after r) (sym failed.0)
-    (inr (record { outcome = o; answered = answered; count = failed.2; written = failed.3 ∙ ap (λ x. append_known before.told (take failed.2 x)) t }))
+    (inr (record { outcome = o; answered = answered; count = failed.2; written = failed.3 ∙ ap (λ x. append_known before.told (take failed.2 x)) t; rose = failed.1 }))
 
-not_outside : (status : Status) → IsOwn status → status ≡ Outside → ⊥
+pub not_outside : (status : Status) → IsOwn status → status ≡ Outside → ⊥
 not_outside Done i e = cc
 not_outside Denials i e = cc
 not_outside Refused i e = cc

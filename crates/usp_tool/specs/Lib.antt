@@ -6,3 +6,8 @@ pub mod Sign
 pub mod Job
 pub mod Answers
 pub mod Run
+pub mod Edge
+pub mod Play
+pub mod Lab
+pub mod Program
+pub mod Headline

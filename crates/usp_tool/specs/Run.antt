@@ -63,12 +63,13 @@ pub record PutsWhole {S : Type 0} (command : Command) (before after : World S) (
   pub written : after.told ≡ append_known before.told outcome.text
   pub ends : status ≡ outcome.status
 
--- A part of the text of such an outcome went out.
+-- A put failed, and a part of the text of such an outcome went out.
 pub record PutsPart {S : Type 0} (command : Command) (before after : World S) : Type 0 where
   pub outcome : Outcome
   pub answered : IsAnswered command before.files before.left outcome
   pub count : ℕ
   pub written : after.told ≡ append_known before.told (take count outcome.text)
+  pub rose : Rose before.put_faults after.put_faults
 
 -- What a status says of the output.
 abbrev pub Shows : {S : Type 0} → Command → World S → World S → Status → Type 0
@@ -79,12 +80,15 @@ Shows command before after Words = ⊥
 Shows command before after Outside = (after.told ≡ before.told) ⊎ PutsPart command before after
 Shows command before after Memory = after.told ≡ before.told
 
+-- That file was asked for once, or none was.
+abbrev pub AsksOnce : (name : List ℕ) → Option (List (List ℕ)) → Option (List (List ℕ)) → Type 0
+AsksOnce name None after = after ≡ None
+AsksOnce name (Some names) after = (after ≡ Some names) ⊎ (after ≡ Some (names ++ name ∷ []))
+
 -- A command asks for its configuration once, or for no file.
 abbrev pub AsksAtMost : Option Command → Option (List (List ℕ)) → Option (List (List ℕ)) → Type 0
-AsksAtMost command None after = after ≡ None
-AsksAtMost None (Some names) after = after ≡ Some names
-AsksAtMost (Some command) (Some names) after =
-    (after ≡ Some names) ⊎ (after ≡ Some (names ++ conf_name command ∷ []))
+AsksAtMost None names after = after ≡ names
+AsksAtMost (Some command) names after = AsksOnce (conf_name command) names after
 
 -- The statuses 0 and 1 come only where the input was read to its end.
 abbrev pub ReadsWhole : Status → Bool → Type 0

@@ -28,4 +28,7 @@ conf_name (sign conf kid) = conf
 
 -- the line that is printed for other words
 abbrev pub usage_line : List ℕ
-usage_line = codes "usage: usp sign CONF KID | check CONF" ++ line_feed ∷ []
+usage_line =
+    codes "usage: usp sign CONF KID | check CONF | lab WORKERS | lab-from N | edge CONF ADDRESS WORKERS CONNECTIONS "
+    ++ (codes "FOLDER | play URI MAP"
+    ++ line_feed ∷ [])

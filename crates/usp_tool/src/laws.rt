@@ -22,7 +22,7 @@ ghost use Rattle.usp_tool.specs.Outcome.{Outcome};
 ghost use Rattle.usp_tool.specs.Sign.{SignsAll, SignsEach};
 ghost use Rattle.usp_tool.specs.Sign.Line.{SignsLine, payload_for};
 ghost use Rattle.usp_tool.specs.Words.{Command, check, sign};
-ghost use Rattle.usp_tool.specs.declared.limits.TheConstants.{MAX_INPUT, MAX_LINE};
+ghost use Rattle.usp_tool.specs.declared.limits.TheConstants.{MAX_CONNECTIONS, MAX_INPUT, MAX_LINE, MAX_WORKERS};
 
 use usp_base::MOMENT_BOUND;
 use usp_claims::MAX_NUMBER;
@@ -86,6 +86,8 @@ pub fn one_outcome()
 pub fn limits_are_told()
     ensures line { MAX_LINE ≡ 32768 }
     ensures input { MAX_INPUT ≡ 16777216 }
+    ensures workers { MAX_WORKERS ≡ 16 }
+    ensures connections { MAX_CONNECTIONS ≡ 100000 }
 {}
 
 /// What two crates say of one thing is one number: each moment of a request is one of the nonce table, and a nonce

@@ -67,10 +67,34 @@ impl From<usp_nonce::NoMemory> for NoMemory {
     }
 }
 
+impl From<usp_shared::NoMemory> for NoMemory {
+    ghost from_gives = { λ _ e. Unit {0} };
+
+    fn from(_: usp_shared::NoMemory) -> Self {
+        NoMemory
+    }
+}
+
 impl From<usp_rules::NoMemory> for NoMemory {
     ghost from_gives = { λ _ e. Unit {0} };
 
     fn from(_: usp_rules::NoMemory) -> Self {
+        NoMemory
+    }
+}
+
+impl From<usp_script::NoMemory> for NoMemory {
+    ghost from_gives = { λ _ e. Unit {0} };
+
+    fn from(_: usp_script::NoMemory) -> Self {
+        NoMemory
+    }
+}
+
+impl From<usp_lab::NoMemory> for NoMemory {
+    ghost from_gives = { λ _ e. Unit {0} };
+
+    fn from(_: usp_lab::NoMemory) -> Self {
         NoMemory
     }
 }

@@ -1,25 +1,36 @@
 //! The top call: a command over what is outside.
-ghost use Rattle.std.specs.Prelude.{◌≡◌, ◌⊎◌, map, string_bytes, List, ℕ, Some, IfOk, IsErrOf};
+ghost use Rattle.std.specs.Prelude.{◌≡◌, ◌⊎◌, All, map, string_bytes, length, List, ℕ, Some, IfOk, IfSome, IsErrOf};
 ghost use Rattle.std.specs.Process.{exit_status};
 ghost use Rattle.usp_base.specs.Outside.{Rose, file_of};
 ghost use Rattle.usp_base.specs.Statuses.{status_number};
 ghost use Rattle.usp_base.specs.declared.fault.Status.{Status};
 ghost use Rattle.usp_base.specs.declared.files.MemoryFile.{MemoryFile};
 ghost use Rattle.usp_tool.specs.Answers.{HasOutcome, IsRefusedUnread};
+ghost use Rattle.usp_tool.specs.Edge.Words.{edge_of};
+ghost use Rattle.usp_tool.specs.Edge.Desks.{IsEmpty, desk_by};
+ghost use Rattle.usp_tool.specs.Headline.{Headline, PrintsChecks, WherePrinted};
 ghost use Rattle.usp_tool.specs.Outcome.{IsOwn};
+ghost use Rattle.usp_tool.specs.Program.{IsProgramRun, scene_of};
 ghost use Rattle.usp_tool.specs.Run.{AsksAtMost, IsAnswered, ReadsWhole, IsRun, world_of};
-ghost use Rattle.usp_tool.specs.Words.{conf_name, in_bytes};
+ghost use Rattle.usp_tool.specs.Words as words_of;
+ghost use Rattle.usp_tool.specs.Words.{check, conf_name, in_bytes};
 
+use crate::edge::{Crew, Worker, edge_of, run_edge};
 use crate::input::read_up_to;
 use crate::job::{job_of, work};
+use crate::lab::{groups_of, run_lab, run_lab_from, workers_of};
 use crate::limits::MAX_INPUT;
 use crate::output::{Outcome, conf_refusal, put_text, refusal};
+use crate::play::{play_of, run_play};
 use crate::words::{Command, USAGE, command_of};
 use std::alloc::Global;
 use std::process::ExitCode;
-use usp_base::{Files, LoadFault, Sink, Source, Status};
+use std::sync::Wait;
+use std::thread::Threads;
+use usp_base::{Clock, Door, Files, Link, LoadFault, Objects, Sink, Source, Status};
 use usp_conf::read_conf;
 use usp_ext::Kit;
+use usp_lab::{Bench, Lab};
 
 /// What commands are run with.
 #[derive(Drop)]
@@ -31,10 +42,16 @@ pub struct Means<'a> {
 
 /// What the program is run over.
 #[derive(Drop)]
-pub struct Outside<F, S, K> {
+pub struct Outside<F, S, K, D, C, O, L, B> {
     pub files: F,
     pub input: S,
     pub out: K,
+    /// The workers of `edge`, whose shifts are empty: as many as its words ask for.
+    pub workers: Vec<Worker<D, C, O>>,
+    /// What `play` asks.
+    pub link: L,
+    /// Where the connections of `lab` come from.
+    pub bench: B,
     /// The tests of the claims that extensions name.
     pub kit: Kit,
 }
@@ -90,8 +107,8 @@ fn outcome_of<F: Files, S: Source>(
     outcome_under(means, command, &text, input)
 }
 
-/// `check CONF` and `sign CONF KID` (the words are those behind the program's name).
-pub fn run_tool<F: Files, S: Source, K: Sink>(
+// Runs a command over lines, or prints the usage line.
+fn run_lines<F: Files, S: Source, K: Sink>(
     means: &Means<'_>,
     words: &[String],
     files: &mut F,
@@ -112,21 +129,99 @@ pub fn run_tool<F: Files, S: Source, K: Sink>(
     }
 }
 
-/// The whole program over its outside: reads the words and runs their command.
-pub fn run<F: Files, S: Source, K: Sink>(
-    alloc: Global,
+/// `check CONF` and `sign CONF KID` (the words are those behind the program's name).
+/// What `check` printed is what the first two sentences of the headline say.
+pub fn run_tool<F: Files, S: Source, K: Sink>(
+    means: &Means<'_>,
     words: &[String],
-    outside: &mut Outside<F, S, K>,
+    files: &mut F,
+    input: &mut S,
+    out: &mut K,
 ) -> Status
-    ensures { IsRun (map (λ w. string_bytes w) words.now)
-        (world_of F.Files S.Source K.Sink outside.old.files outside.old.input outside.old.out)
-        (world_of F.Files S.Source K.Sink outside.new.files outside.new.input outside.new.out)
-        result }
+    ensures run { IsRun (map (λ w. string_bytes w) words.now)
+        (world_of F.Files S.Source K.Sink files.old input.old out.old)
+        (world_of F.Files S.Source K.Sink files.new input.new out.new) result }
+    ensures headline { (name : List ℕ) → words_of.command_of (map (λ w. string_bytes w) words.now) ≡ Some (check name)
+        → WherePrinted result (PrintsChecks name
+        (world_of F.Files S.Source K.Sink files.old input.old out.old)
+        (world_of F.Files S.Source K.Sink files.new input.new out.new)) }
 {
-    let means = Means {
-        alloc,
-        kit: &outside.kit,
-    };
+    run_lines(means, words, files, input, out)
+}
+
+// Reads the words and runs their command.
+fn obey<
+    R: Threads + Wait + Sync,
+    F: Files,
+    S: Source,
+    K: Sink,
+    D: Door + Send,
+    C: Clock + Send,
+    O: Objects + Send,
+    L: Link,
+    B: Bench,
+>(rt: &R, alloc: Global, words: &[String], outside: &mut Outside<F, S, K, D, C, O, L, B>) -> Status
+where
+    D::Line: Send,
+    requires workers { IfSome (edge_of (map (λ w. string_bytes w) words.now)) (λ of.
+        length outside.old.workers.items ≡ of.workers) }
+    requires empty { All (λ w. IsEmpty w.shift) outside.old.workers.items }
+    ensures run { IsProgramRun (map (λ w. string_bytes w) words.now)
+        (scene_of F.Files S.Source K.Sink
+        (desk_by D.coming D.given_back D.lines_out D.door_count C.given O.objects O.object_count)
+        L.Link B.given_back outside.old.files outside.old.input outside.old.out outside.old.workers.items
+        outside.old.link outside.old.bench)
+        (scene_of F.Files S.Source K.Sink
+        (desk_by D.coming D.given_back D.lines_out D.door_count C.given O.objects O.object_count)
+        L.Link B.given_back outside.new.files outside.new.input outside.new.out outside.new.workers.items
+        outside.new.link outside.new.bench) result }
+    ensures empty { All (λ w. IsEmpty w.shift) outside.new.workers.items }
+{
+    let kit = &outside.kit;
+    if let Some(words) = edge_of(words) {
+        let crew = Crew { rt, alloc, kit };
+        return run_edge(
+            &crew,
+            &words,
+            &mut outside.files,
+            &mut outside.workers,
+            &mut outside.out,
+        );
+    }
+    if let Some(words) = play_of(words) {
+        return run_play(
+            alloc,
+            &words,
+            &mut outside.files,
+            &mut outside.link,
+            &mut outside.out,
+        );
+    }
+    if let Some(workers) = workers_of(words) {
+        let lab = Lab {
+            rt,
+            alloc,
+            kit,
+            workers: workers as usize,
+        };
+        return run_lab(
+            &lab,
+            &mut outside.files,
+            &mut outside.input,
+            &mut outside.bench,
+            &mut outside.out,
+        );
+    }
+    if let Some(groups) = groups_of(words) {
+        let lab = Lab {
+            rt,
+            alloc,
+            kit,
+            workers: 1,
+        };
+        return run_lab_from(&lab, groups, &mut outside.bench, &mut outside.out);
+    }
+    let means = Means { alloc, kit };
     run_tool(
         &means,
         words,
@@ -136,17 +231,89 @@ pub fn run<F: Files, S: Source, K: Sink>(
     )
 }
 
+/// The whole program over its outside: reads the words and runs their command. What it printed is what the headline
+/// says.
+pub fn run<
+    R: Threads + Wait + Sync,
+    F: Files,
+    S: Source,
+    K: Sink,
+    D: Door + Send,
+    C: Clock + Send,
+    O: Objects + Send,
+    L: Link,
+    B: Bench,
+>(rt: &R, alloc: Global, words: &[String], outside: &mut Outside<F, S, K, D, C, O, L, B>) -> Status
+where
+    D::Line: Send,
+    requires workers { IfSome (edge_of (map (λ w. string_bytes w) words.now)) (λ of.
+        length outside.old.workers.items ≡ of.workers) }
+    requires empty { All (λ w. IsEmpty w.shift) outside.old.workers.items }
+    ensures run { IsProgramRun (map (λ w. string_bytes w) words.now)
+        (scene_of F.Files S.Source K.Sink
+        (desk_by D.coming D.given_back D.lines_out D.door_count C.given O.objects O.object_count)
+        L.Link B.given_back outside.old.files outside.old.input outside.old.out outside.old.workers.items
+        outside.old.link outside.old.bench)
+        (scene_of F.Files S.Source K.Sink
+        (desk_by D.coming D.given_back D.lines_out D.door_count C.given O.objects O.object_count)
+        L.Link B.given_back outside.new.files outside.new.input outside.new.out outside.new.workers.items
+        outside.new.link outside.new.bench) result }
+    ensures headline { Headline (map (λ w. string_bytes w) words.now)
+        (scene_of F.Files S.Source K.Sink
+        (desk_by D.coming D.given_back D.lines_out D.door_count C.given O.objects O.object_count)
+        L.Link B.given_back outside.old.files outside.old.input outside.old.out outside.old.workers.items
+        outside.old.link outside.old.bench)
+        (scene_of F.Files S.Source K.Sink
+        (desk_by D.coming D.given_back D.lines_out D.door_count C.given O.objects O.object_count)
+        L.Link B.given_back outside.new.files outside.new.input outside.new.out outside.new.workers.items
+        outside.new.link outside.new.bench) result }
+    ensures empty { All (λ w. IsEmpty w.shift) outside.new.workers.items }
+{
+    obey(rt, alloc, words, outside)
+}
+
 /// The same, answering the exit code, which is the number of the status. `main` makes the real objects, calls it,
 /// and ends with what it answers.
-pub fn run_to_the_end<F: Files, S: Source, K: Sink>(
+pub fn run_to_the_end<
+    R: Threads + Wait + Sync,
+    F: Files,
+    S: Source,
+    K: Sink,
+    D: Door + Send,
+    C: Clock + Send,
+    O: Objects + Send,
+    L: Link,
+    B: Bench,
+>(
+    rt: &R,
     alloc: Global,
     words: &[String],
-    outside: &mut Outside<F, S, K>,
+    outside: &mut Outside<F, S, K, D, C, O, L, B>,
 ) -> ExitCode
+where
+    D::Line: Send,
+    requires workers { IfSome (edge_of (map (λ w. string_bytes w) words.now)) (λ of.
+        length outside.old.workers.items ≡ of.workers) }
+    requires empty { All (λ w. IsEmpty w.shift) outside.old.workers.items }
     ensures { (status : Status) × (exit_status result ≡ status_number status)
-        × IsRun (map (λ w. string_bytes w) words.now)
-        (world_of F.Files S.Source K.Sink outside.old.files outside.old.input outside.old.out)
-        (world_of F.Files S.Source K.Sink outside.new.files outside.new.input outside.new.out) status }
+        × IsProgramRun (map (λ w. string_bytes w) words.now)
+        (scene_of F.Files S.Source K.Sink
+        (desk_by D.coming D.given_back D.lines_out D.door_count C.given O.objects O.object_count)
+        L.Link B.given_back outside.old.files outside.old.input outside.old.out outside.old.workers.items
+        outside.old.link outside.old.bench)
+        (scene_of F.Files S.Source K.Sink
+        (desk_by D.coming D.given_back D.lines_out D.door_count C.given O.objects O.object_count)
+        L.Link B.given_back outside.new.files outside.new.input outside.new.out outside.new.workers.items
+        outside.new.link outside.new.bench) status
+        × Headline (map (λ w. string_bytes w) words.now)
+        (scene_of F.Files S.Source K.Sink
+        (desk_by D.coming D.given_back D.lines_out D.door_count C.given O.objects O.object_count)
+        L.Link B.given_back outside.old.files outside.old.input outside.old.out outside.old.workers.items
+        outside.old.link outside.old.bench)
+        (scene_of F.Files S.Source K.Sink
+        (desk_by D.coming D.given_back D.lines_out D.door_count C.given O.objects O.object_count)
+        L.Link B.given_back outside.new.files outside.new.input outside.new.out outside.new.workers.items
+        outside.new.link outside.new.bench) status }
 {
-    run(alloc, words, outside).exit_code()
+    run(rt, alloc, words, outside).exit_code()
 }

@@ -4,7 +4,9 @@ ghost use Rattle.std.specs.Option.{option_map};
 ghost use Rattle.usp_tool.specs.Words.{command_of, conf_name, in_bytes};
 
 /// The line that is printed for other words.
-pub const USAGE: &[u8] = b"usage: usp sign CONF KID | check CONF\n";
+pub const USAGE: &[u8] =
+    b"usage: usp sign CONF KID | check CONF | lab WORKERS | lab-from N | edge CONF ADDRESS WORKERS CONNECTIONS \
+      FOLDER | play URI MAP\n";
 
 /// What the words ask for.
 #[derive(Drop)]

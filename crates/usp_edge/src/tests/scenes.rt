@@ -1,5 +1,8 @@
 //! An edge, tokens for it, and connections that it serves.
-use crate::{Edge, End, Note, serve_connection};
+ghost use Rattle.std.specs.Prelude.{◌≤◌};
+ghost use Rattle.usp_edge.specs.declared.limits.TheConstants.{MAX_HEADS};
+
+use crate::{Edge, End, Nonces, Note, serve_connection};
 use std::alloc::Global;
 use std::test::Fail;
 use usp_base::{
@@ -137,9 +140,21 @@ fn objects(alloc: Global) -> Result<Vec<MemoryFile>, Fail> {
 }
 
 pub fn run(alloc: Global, scene: Scene<'_>, bytes: &str) -> Result<Ran, Fail> {
+    let mut nonces = NonceTable::with_room(alloc, scene.room.max(1) as u32)?;
+    run_over(alloc, scene, bytes, &mut nonces)
+}
+
+// The same over nonces that there are already.
+pub fn run_over<N: Nonces>(
+    alloc: Global,
+    scene: Scene<'_>,
+    bytes: &str,
+    nonces: &mut N,
+) -> Result<Ran, Fail>
+    requires { MAX_HEADS ≤ N.calls_left nonces.old }
+{
     let conf = read_conf(alloc, CONF)?;
     let kit = Kit::new(is_any, equals, is_one_of, is_at_most, is_path_prefix);
-    let mut nonces = NonceTable::with_room(alloc, scene.room.max(1) as u32)?;
     let reads = Vec::from_slice(alloc, scene.reads)?;
     let puts = Vec::from_slice(alloc, scene.puts)?;
     let finds = Vec::from_slice(alloc, scene.finds)?;
@@ -159,7 +174,7 @@ pub fn run(alloc: Global, scene: Scene<'_>, bytes: &str) -> Result<Ran, Fail> {
     let end = serve_connection(
         &edge,
         &mut wire,
-        &mut nonces,
+        nonces,
         &mut clock,
         &mut objects,
         &mut notes,

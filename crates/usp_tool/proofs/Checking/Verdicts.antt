@@ -26,7 +26,7 @@ bound_by true true v most n t e = let same : v ≡ n = cc in grind (arith, nat_t
 bound_by true false v most n t e = cc
 bound_by false b v most n t e = cc
 
-number_bound : (most : ℕ) (text : List ℕ) (n : ℕ) → number_of most text ≡ Some n → n ≤ most
+pub number_bound : (most : ℕ) (text : List ℕ) (n : ℕ) → number_of most text ≡ Some n → n ≤ most
 number_bound most text n e = bound_by (is_whole text) (nat_le (value_of text) most) (value_of text) most n refl e
 
 spelled_bound : (most n : ℕ) (text : Option (List ℕ)) → option_and_then (number_of most) text ≡ Some n → n ≤ most

@@ -1,5 +1,5 @@
 -- One line of `sign`.
-use Rattle.std.proofs.Common.{IfOk, MatchOption, ◌≡◌, ℕ, ◌+◌, ◌<◌, ◌≤◌, codes, List, [], ◌++◌, length, Option, Some, None, Result, Ok, Err, refl, sym, ap, ◌∙◌, subst, arith, length-append}
+use Rattle.std.proofs.Common.{IfOk, MatchOption, ◌≡◌, ℕ, ◌<◌, ◌≤◌, codes, List, [], ◌++◌, length, Option, Some, None, Result, Ok, Err, refl, sym, ap, ◌∙◌, subst, arith, length-append}
 use Rattle.std.specs.Result.{result_ok}
 use Rattle.usp_base.proofs.Facts.{same_some}
 use Rattle.usp_base.specs.Cuts.{cut_at}

@@ -1,7 +1,10 @@
 //! The rows of `check`, each through `run` over the forms in memory.
 use crate::tests::{CONF, EXPRESSION, TOKEN, WITH_NONCE, line, runs};
-use std::alloc::{AllocError, Global};
+use std::alloc::AllocError;
+use std::process::Abort;
+use std::sync::Wait;
 use std::test::Fail;
+use std::thread::Threads;
 use usp_base::Status;
 
 // A configuration whose secret is 32 bytes 0x02.
@@ -44,13 +47,13 @@ const FOLDER: &str =
     x2KY";
 
 // Runs `check c.json`, and answers the status and whether just this text was written.
-fn checks(
-    alloc: Global,
+fn checks<R: Threads + Wait + Sync + Abort + AllocGlobal>(
+    rt: &R,
     conf: &str,
     input: &str,
     written: &str,
 ) -> Result<(Status, bool), AllocError> {
-    let (status, text) = runs(alloc, &["check", "c.json"], conf, input.as_bytes())?;
+    let (status, text) = runs(rt, &["check", "c.json"], conf, input.as_bytes())?;
     Ok((status, text.as_slice() == written.as_bytes()))
 }
 
@@ -128,10 +131,7 @@ fn a_line_is_admitted_or_denied_by_the_first_rule_that_fails(rt: HostRuntime) ->
     ];
     for (conf, front, back, written, status) in rows {
         let input = line(alloc, front, TOKEN, back)?;
-        assert_eq!(rt;
-            checks(alloc, conf, input.as_str(), written)?,
-            (status, true)
-        );
+        assert_eq!(rt; checks(&rt, conf, input.as_str(), written)?, (status, true));
     }
     Ok(())
 }
@@ -199,10 +199,7 @@ fn any_uri_is_judged_in_its_normal_form(rt: HostRuntime) -> Result<(), Fail> {
     ];
     for (front, token, back, written, status) in rows {
         let input = line(alloc, front, token, back)?;
-        assert_eq!(rt;
-            checks(alloc, CONF, input.as_str(), written)?,
-            (status, true)
-        );
+        assert_eq!(rt; checks(&rt, CONF, input.as_str(), written)?, (status, true));
     }
     Ok(())
 }
@@ -268,10 +265,7 @@ fn any_header_and_container_is_judged(rt: HostRuntime) -> Result<(), Fail> {
     ];
     for (front, token, written, status) in rows {
         let input = line(alloc, front, token, "")?;
-        assert_eq!(rt;
-            checks(alloc, CONF, input.as_str(), written)?,
-            (status, true)
-        );
+        assert_eq!(rt; checks(&rt, CONF, input.as_str(), written)?, (status, true));
     }
     Ok(())
 }
@@ -301,10 +295,7 @@ fn an_expression_names_the_segments_of_a_folder(rt: HostRuntime) -> Result<(), F
     ];
     for (front, written, status) in rows {
         let input = line(alloc, front, FOLDER, "")?;
-        assert_eq!(rt;
-            checks(alloc, CONF, input.as_str(), written)?,
-            (status, true)
-        );
+        assert_eq!(rt; checks(&rt, CONF, input.as_str(), written)?, (status, true));
     }
     Ok(())
 }
@@ -327,7 +318,7 @@ fn a_line_of_another_form_is_refused(rt: HostRuntime) -> Result<(), Fail> {
         let input = line(alloc, front, token, back)?;
         let refused = (Status::Refused, true);
         assert_eq!(rt;
-            checks(alloc, CONF, input.as_str(), "refused line 1\n")?,
+            checks(&rt, CONF, input.as_str(), "refused line 1\n")?,
             refused
         );
     }
@@ -337,19 +328,19 @@ fn a_line_of_another_form_is_refused(rt: HostRuntime) -> Result<(), Fail> {
 #[test]
 fn empty_and_long_inputs_and_other_configurations(rt: HostRuntime) -> Result<(), Fail> {
     let alloc = rt.alloc();
-    assert_eq!(rt; checks(alloc, CONF, "", "")?, (Status::Done, true));
+    assert_eq!(rt; checks(&rt, CONF, "", "")?, (Status::Done, true));
     let mut long = String::new(alloc);
     for _ in 0..32_768 {
         long.push('7')?;
     }
-    let most = checks(alloc, CONF, long.as_str(), "refused line 1\n")?;
+    let most = checks(&rt, CONF, long.as_str(), "refused line 1\n")?;
     assert_eq!(rt; most, (Status::Refused, true));
     long.push('7')?;
-    let more = checks(alloc, CONF, long.as_str(), "refused input\n")?;
+    let more = checks(&rt, CONF, long.as_str(), "refused input\n")?;
     assert_eq!(rt; more, (Status::Refused, true));
-    let no_json = checks(alloc, "{", "50 http://h/v", "refused conf json\n")?;
+    let no_json = checks(&rt, "{", "50 http://h/v", "refused conf json\n")?;
     assert_eq!(rt; no_json, (Status::Refused, true));
-    let other = checks(alloc, "{}", "", "refused conf edge\n")?;
+    let other = checks(&rt, "{}", "", "refused conf edge\n")?;
     assert_eq!(rt; other, (Status::Refused, true));
     Ok(())
 }
@@ -377,7 +368,7 @@ fn lines_are_worked_in_order_until_one_is_refused(rt: HostRuntime) -> Result<(),
         ("50 http://h/v\n", "1 denied 2 Missing\n", Status::Denials),
     ];
     for (input, written, status) in rows {
-        assert_eq!(rt; checks(alloc, CONF, input, written)?, (status, true));
+        assert_eq!(rt; checks(&rt, CONF, input, written)?, (status, true));
     }
     Ok(())
 }
@@ -405,10 +396,7 @@ fn a_cookie_brings_the_token_of_a_uri_without_a_package(rt: HostRuntime) -> Resu
     ];
     for (front, token, back, written, status) in rows {
         let input = line(alloc, front, token, back)?;
-        assert_eq!(rt;
-            checks(alloc, CONF, input.as_str(), written)?,
-            (status, true)
-        );
+        assert_eq!(rt; checks(&rt, CONF, input.as_str(), written)?, (status, true));
     }
     Ok(())
 }
@@ -443,7 +431,7 @@ fn thousands_of_lines_are_judged(rt: HostRuntime) -> Result<(), Fail> {
         written.push_str(number.to_string(alloc)?.as_str())?;
         written.push_str(verdict)?;
     }
-    let judged = checks(alloc, CONF, input.as_str(), written.as_str())?;
+    let judged = checks(&rt, CONF, input.as_str(), written.as_str())?;
     assert_eq!(rt; judged, (Status::Denials, true));
     Ok(())
 }

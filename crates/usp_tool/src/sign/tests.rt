@@ -1,7 +1,10 @@
 //! The rows of `sign`, and what is signed through `check`, each through `run` over the forms in memory.
 use crate::tests::{CONF, EXPRESSION, TOKEN, line, runs};
 use std::alloc::{AllocError, Global};
+use std::process::Abort;
+use std::sync::Wait;
 use std::test::Fail;
+use std::thread::Threads;
 use usp_base::Status;
 
 // The configuration with room for one nonce.
@@ -11,8 +14,13 @@ const SMALL: &str =
     \"sign_kid\":\"k1\",\"room\":1}";
 
 // Whether `sign c.json k1` writes just this for the input, with this status.
-fn signs(alloc: Global, input: &str, written: &str, status: Status) -> Result<bool, AllocError> {
-    let (ended, text) = runs(alloc, &["sign", "c.json", "k1"], CONF, input.as_bytes())?;
+fn signs<R: Threads + Wait + Sync + Abort + AllocGlobal>(
+    rt: &R,
+    input: &str,
+    written: &str,
+    status: Status,
+) -> Result<bool, AllocError> {
+    let (ended, text) = runs(rt, &["sign", "c.json", "k1"], CONF, input.as_bytes())?;
     Ok(ended == status && text.as_slice() == written.as_bytes())
 }
 
@@ -55,7 +63,7 @@ fn a_uri_is_signed_in_its_normal_form(rt: HostRuntime) -> Result<(), Fail> {
     for (uri, claims, front, token) in rows {
         let input = line(alloc, uri, claims, "")?;
         let written = line(alloc, front, token, "\n")?;
-        assert!(rt; signs(alloc, input.as_str(), written.as_str(), Status::Done)?);
+        assert!(rt; signs(&rt, input.as_str(), written.as_str(), Status::Done)?);
     }
     Ok(())
 }
@@ -75,7 +83,7 @@ fn a_line_that_is_not_signed_is_refused(rt: HostRuntime) -> Result<(), Fail> {
     ];
     for row in rows {
         let input = line(alloc, row, "\n", "")?;
-        assert!(rt; signs(alloc, input.as_str(), "refused line 1\n", Status::Refused)?);
+        assert!(rt; signs(&rt, input.as_str(), "refused line 1\n", Status::Refused)?);
     }
     Ok(())
 }
@@ -90,15 +98,15 @@ fn what_is_signed_before_a_refused_line_stays(rt: HostRuntime) -> Result<(), Fai
         EXPRESSION,
         "\nrefused line 2\n",
     )?;
-    assert!(rt; signs(alloc, input, written.as_str(), Status::Refused)?);
-    assert!(rt; signs(alloc, "", "", Status::Done)?);
+    assert!(rt; signs(&rt, input, written.as_str(), Status::Refused)?);
+    assert!(rt; signs(&rt, "", "", Status::Done)?);
     Ok(())
 }
 
 #[test]
 fn an_unknown_key_is_refused_before_the_input(rt: HostRuntime) -> Result<(), Fail> {
     let alloc = rt.alloc();
-    let (status, text) = runs(alloc, &["sign", "c.json", "k9"], CONF, b"x\n")?;
+    let (status, text) = runs(&rt, &["sign", "c.json", "k9"], CONF, b"x\n")?;
     assert_eq!(rt; status, Status::Refused);
     assert_eq!(rt; text.as_slice(), b"refused key\n".as_slice());
     Ok(())
@@ -114,7 +122,7 @@ fn a_signed_uri_has_at_most_8192_bytes(rt: HostRuntime) -> Result<(), Fail> {
             input.push('a')?;
         }
         input.push_str(" {\"cdniuc\":\"regex:a\"}")?;
-        let (status, _) = runs(alloc, &["sign", "c.json", "k1"], CONF, input.as_bytes())?;
+        let (status, _) = runs(&rt, &["sign", "c.json", "k1"], CONF, input.as_bytes())?;
         assert_eq!(rt; status, expected);
     }
     Ok(())
@@ -132,17 +140,18 @@ fn asks(alloc: Global, signed: &[u8], moments: &[&str]) -> Result<Vec<u8>, Alloc
 }
 
 // Signs claims for `http://h/v`, and whether `check` writes just this for them at these moments.
-fn checked(
-    alloc: Global,
+fn checked<R: Threads + Wait + Sync + Abort + AllocGlobal>(
+    rt: &R,
     conf: &str,
     claims: &str,
     moments: &[&str],
     written: &str,
 ) -> Result<(Status, bool), AllocError> {
+    let alloc = rt.alloc();
     let input = line(alloc, "http://h/v ", claims, "\n")?;
-    let (_, signed) = runs(alloc, &["sign", "c.json", "k1"], conf, input.as_bytes())?;
+    let (_, signed) = runs(rt, &["sign", "c.json", "k1"], conf, input.as_bytes())?;
     let lines = asks(alloc, &signed, moments)?;
-    let (status, text) = runs(alloc, &["check", "c.json"], conf, &lines)?;
+    let (status, text) = runs(rt, &["check", "c.json"], conf, &lines)?;
     Ok((status, text.as_slice() == written.as_bytes()))
 }
 
@@ -181,7 +190,7 @@ fn a_nonce_is_taken_once_within_its_window(rt: HostRuntime) -> Result<(), Fail> 
     ];
     for (conf, claims, moments, written, status) in rows {
         assert_eq!(rt;
-            checked(alloc, conf, claims, moments, written)?,
+            checked(&rt, conf, claims, moments, written)?,
             (status, true)
         );
     }
@@ -193,7 +202,7 @@ fn a_full_table_and_a_late_nonce_are_denied(rt: HostRuntime) -> Result<(), Fail>
     let alloc = rt.alloc();
     let claims = "http://h/v {\"cdniuc\":\"hash:\",\"jti\":\"n\"}\n\
         http://h/v {\"cdniuc\":\"hash:\",\"jti\":\"m\",\"exp\":100}\n";
-    let (_, signed) = runs(alloc, &["sign", "c.json", "k1"], SMALL, claims.as_bytes())?;
+    let (_, signed) = runs(&rt, &["sign", "c.json", "k1"], SMALL, claims.as_bytes())?;
     let Some(end) = signed.iter().position(|b| *b == b'\n') else {
         return Err(Fail::from(AllocError));
     };
@@ -204,7 +213,7 @@ fn a_full_table_and_a_late_nonce_are_denied(rt: HostRuntime) -> Result<(), Fail>
     for (first, second, written) in rows {
         let mut lines = asks(alloc, &signed[..end + 1], &[first])?;
         lines.extend_from_slice(&asks(alloc, &signed[end + 1..], &[second])?)?;
-        let (status, text) = runs(alloc, &["check", "c.json"], SMALL, &lines)?;
+        let (status, text) = runs(&rt, &["check", "c.json"], SMALL, &lines)?;
         assert_eq!(rt; status, Status::Denials);
         assert_eq!(rt; text.as_slice(), written);
     }
@@ -234,8 +243,8 @@ fn thousands_of_lines_are_signed_and_admitted(rt: HostRuntime) -> Result<(), Fai
         admitted.push_str(uri.as_str())?;
         admitted.push('\n')?;
     }
-    assert!(rt; signs(alloc, input.as_str(), signed.as_str(), Status::Done)?);
-    let (status, text) = runs(alloc, &["check", "c.json"], CONF, asked.as_bytes())?;
+    assert!(rt; signs(&rt, input.as_str(), signed.as_str(), Status::Done)?);
+    let (status, text) = runs(&rt, &["check", "c.json"], CONF, asked.as_bytes())?;
     assert_eq!(rt; status, Status::Done);
     assert_eq!(rt; text.as_slice(), admitted.as_bytes());
     Ok(())

@@ -1,0 +1,21 @@
+-- A round of asks, served by workers.
+pub mod Dealing
+pub mod Summing
+pub mod Merging
+pub mod Picking
+pub mod Calling
+pub mod Joining
+pub mod Gaining
+pub mod Lending
+pub mod Handing
+pub mod Collecting
+pub mod Taking
+pub mod Seating
+pub mod Working
+pub mod Doing
+pub mod Behind
+pub mod Holding
+pub mod Assembling
+pub mod Overall
+pub mod Rounding
+pub mod Final

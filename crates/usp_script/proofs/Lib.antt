@@ -1,0 +1,11 @@
+pub mod Adding
+pub mod Asking
+pub mod Configurations
+pub mod Forms
+pub mod Grants
+pub mod Groups
+pub mod Kept
+pub mod Numerals
+pub mod Progress
+pub mod Uris
+pub mod Words

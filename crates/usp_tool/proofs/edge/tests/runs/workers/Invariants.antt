@@ -1,0 +1,7 @@
+use Rattle.std.proofs.Common.{◌≡◌, All, length}
+use Rattle.usp_tool.specs.Edge.Desks.{IsEmpty}
+use Rattle.usp_tool.proofs.edge.tests.runs.workers.Given as goal
+
+-- so many workers were made, and their shifts are empty
+abbrev pub invariant-workers : goal.invariant-workers
+invariant-workers l = (length l.workers.items ≡ l.i) × All (λ w. IsEmpty w.shift) l.workers.items
